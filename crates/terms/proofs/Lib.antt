@@ -1,0 +1,3 @@
+pub mod Sets
+pub mod Turns
+pub mod Fronts

@@ -1,0 +1,8 @@
+//! The lowest layer of Hevtsuro: ordered items, rising lists over lent memory, bounded lists, role codes and what they
+//! reach, literals, and the refusals that every layer answers with.
+pub mod lists;
+pub mod order;
+pub mod refusals;
+
+pub use order::Ordered;
+pub use refusals::Refusal;
