@@ -1,3 +1,5 @@
+pub mod Codes
+pub mod Fronts
+pub mod Positions
 pub mod Sets
 pub mod Turns
-pub mod Fronts

@@ -10,6 +10,9 @@ use Rattle.std.proofs.shelf.Tests.{and-parts, and-from, and-left, and-right, no
 use Rattle.std.specs.Orderings.{Decides}
 use Rattle.terms.specs.Lists.{_∈_, Is-removal, Is-union, Same-items, Subset, TotalOrder, alike, contained, equal, leads, member, removal, rising, union, union-from}
 
+cons-same : {X : Type 0} {x y : X} {xs ys : List X} → x ≡ y → xs ≡ ys → (x ∷ xs) ≡ (y ∷ ys)
+cons-same d e = cc
+
 module _ {X : Type 0} (lt : X → X → Bool) where
   pub union-nil : (xs : List X) → union lt xs [] ≡ xs
   union-nil [] = refl
@@ -93,6 +96,9 @@ module _ {X : Type 0} (lt : X → X → Bool) where
 
     pub alike-refl : (x : X) → alike lt x x ≡ true
     alike-refl x = let n = not-from-false _ (o .irreflexive x) in and-from _ _ n n
+
+    pub alike-decides : (r : Bool) (x y : X) → r ≡ alike lt x y → Decides r (x ≡ y)
+    alike-decides r x y e = (λ h. alike-same x y (sym e ∙ h), λ h. e ∙ subst (λ w. alike lt x w ≡ true) h (alike-refl x))
 
     -- ---- membership and containment
 
@@ -208,9 +214,7 @@ module _ {X : Type 0} (lt : X → X → Bool) where
     equal-same [] (y ∷ ys) h = absurd (true≢false (sym h))
     equal-same (x ∷ xs) [] h = absurd (true≢false (sym h))
     equal-same (x ∷ xs) (y ∷ ys) h =
-        let d : x ≡ y = alike-same x y (and-parts _ _ h .0) in
-        let e : xs ≡ ys = equal-same xs ys (and-parts _ _ h .1) in
-        cc
+        cons-same (alike-same x y (and-parts _ _ h .0)) (equal-same xs ys (and-parts _ _ h .1))
 
     equal-refl : (xs : List X) → equal lt xs xs ≡ true
     equal-refl [] = refl
@@ -238,8 +242,7 @@ module _ {X : Type 0} (lt : X → X → Bool) where
     rising-same (x ∷ xs) [] p q h k = absurd (h x (inl refl))
     rising-same (x ∷ xs) (y ∷ ys) p q h k =
         let d : x ≡ y = first-same x y xs ys p q (h x (inl refl)) (k y (inl refl)) in
-        let e : xs ≡ ys = rising-same xs ys (rising-tail x xs p) (rising-tail y ys q) (rest-subset x y xs ys p d h) (rest-subset y x ys xs q (sym d) k) in
-        cc
+        cons-same d (rising-same xs ys (rising-tail x xs p) (rising-tail y ys q) (rest-subset x y xs ys p d h) (rest-subset y x ys xs q (sym d) k))
 
     pub equal-sets : (r : Bool) (xs ys : List X) → Decides r (xs ≡ ys) → rising lt xs ≡ true → rising lt ys ≡ true → Decides r (Same-items xs ys)
     equal-sets r xs ys d p q = (
