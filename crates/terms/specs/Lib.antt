@@ -1,6 +1,9 @@
 pub mod Limits
 pub mod Lists
 pub mod Literals
+pub mod Reaching
 pub mod Refusals
 pub mod Roles
+pub mod Shorts
+pub mod Tables
 pub mod Writing
