@@ -10,6 +10,14 @@ use crate::order::Ordered;
 use crate::roles::Role;
 use crate::roles::RoleDebug;
 
+// How many concepts there are, and so how many literals of one kind and one role.
+const CONCEPTS: u32 = 256;
+
+// Where the literals `some E A` and `all E A` begin.
+const FIRST_EXISTS: u32 = 256;
+
+const FIRST_FORALL: u32 = 16_640;
+
 /// A concept A; `some E A`, what has a filler of E in A; or `all E A`, what has all its fillers of E in A.
 #[derive(Clone, Copy, Debug)]
 pub enum Literal {
@@ -28,8 +36,8 @@ impl Literal {
     {
         match *self {
             Literal::Concept(a) => a as u32,
-            Literal::Exists(e, a) => 256 + 256 * (e.code() as u32) + a as u32,
-            Literal::Forall(e, a) => 16640 + 256 * (e.code() as u32) + a as u32,
+            Literal::Exists(e, a) => FIRST_EXISTS + CONCEPTS * (e.code() as u32) + a as u32,
+            Literal::Forall(e, a) => FIRST_FORALL + CONCEPTS * (e.code() as u32) + a as u32,
         }
     }
 }

@@ -5,9 +5,12 @@ ghost use Rattle.terms.specs.Limits.{role-codes};
 
 pub mod methods;
 
+// One row for each role code, with one weight for each.
+const ROWS: usize = 64;
+
 /// What each role code reaches by the inclusions entered so far, kept closed as they are entered.
 #[derive(Clone, Copy)]
 pub struct Reach {
-    rows: [u64; 64],
+    rows: [u64; ROWS],
     ghost whole: { length rows ≡ role-codes },
 }

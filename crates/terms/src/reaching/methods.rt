@@ -5,6 +5,7 @@ ghost use lib.ListN.{getD};
 ghost use Rattle.std.specs.Orderings.{Decides};
 ghost use Rattle.terms.specs.Reaching.{Inclusion, Reaches};
 ghost use Rattle.terms.specs.Tables.{Shows, extend, stepped, weight};
+use super::ROWS;
 use super::Reach;
 use crate::roles::Role;
 
@@ -31,8 +32,8 @@ impl Reach {
     pub fn new() -> Reach
         ensures { λ r. ⌜ Shows r [] ⌝ }
     {
-        let mut rows = [0u64; 64];
-        for x in 0..64usize {
+        let mut rows = [0u64; ROWS];
+        for x in 0..ROWS {
             rows[x] = 1u64 << x;
         }
         Reach { rows }
