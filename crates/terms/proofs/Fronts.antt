@@ -1,12 +1,13 @@
 -- A list that is written to the front of lent memory, item by item. Assumes nothing.
 use mathlib.Core.Path.{_≡_, refl, sym, ap, _∙_}
 use mathlib.Core.Bool.{true, false}
+use mathlib.Core.Logic.{_⊎_, inl, inr}
 use mathlib.Core.List.{List, [], _∷_, _++_}
 use Prim.Native.Nat.{ℕ, _+_, _<_, _≤_}
 use native.Mathlib.Omega.{arith}
 use lib.ListN.{length, set, take, drop}
-use Rattle.std.proofs.shelf.Lists.{append-nil, append-assoc, drop-drop, drop-set-lt, length-append, length-set, length-take-le, take-append-drop, take-more-set}
-use Rattle.std.proofs.shelf.Tests.{cond-true, cond-false, le-leb, lt-leb}
+use Rattle.std.proofs.shelf.Lists.{append-nil, append-assoc, drop-drop, drop-set-lt, length-append, length-set, length-take-le, take-append-drop, take-at, take-more-set}
+use Rattle.std.proofs.shelf.Tests.{cases-lt, cond-true, cond-false, le-leb, lt-leb}
 use Rattle.std.specs.declared.result.Result.the-variants.{Ok, Err}
 use Rattle.terms.specs.declared.refusals.Refusal.{Refusal}
 use Rattle.terms.specs.declared.refusals.Refusal.the-variants.{MemoryTooShort}
@@ -68,3 +69,25 @@ module _ {X : Type 0} where
 
   pub memory-not : (row before : List X) → length before < length row → before ≡ written row before
   memory-not row before h = sym (cond-false _ _ _ (lt-leb _ _ h))
+
+  -- ---- what a caller learns from the answer
+
+  pub room-ok : (row : List X) (n k : ℕ) → Ok k ≡ room-for row n → (k ≡ length row) × (length row ≤ n)
+  room-ok row n k e = go (cases-lt n (length row))
+    where
+      go : (n < length row) ⊎ (length row ≤ n) → (k ≡ length row) × (length row ≤ n)
+      go (inl lt) = let f = e ∙ cond-false _ _ _ (lt-leb _ _ lt) in let z : _≡_ {A = ℕ} 0 1 = cc in absurd (omega arith)
+      go (inr le) = let f = e ∙ cond-true _ _ _ (le-leb _ _ le) in let z : k ≡ length row = cc in (z, le)
+
+  pub room-err : (row : List X) (n : ℕ) (d : Refusal) → Err d ≡ room-for row n → n < length row
+  room-err row n d e = go (cases-lt n (length row))
+    where
+      go : (n < length row) ⊎ (length row ≤ n) → n < length row
+      go (inl lt) = lt
+      go (inr le) = let f = e ∙ cond-true _ _ _ (le-leb _ _ le) in let z : _≡_ {A = ℕ} 0 1 = cc in absurd (omega arith)
+
+  -- what was written stands at the front
+  pub front-written : (row before after : List X) (k : ℕ) → Ok k ≡ room-for row (length before) → after ≡ written row before → take k after ≡ row
+  front-written row before after k e is =
+      let f = room-ok row (length before) k e in
+      ap (take k) (is ∙ cond-true _ _ _ (le-leb _ _ (f .1))) ∙ take-at row (drop (length row) before) k (sym (f .0))

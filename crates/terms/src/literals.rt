@@ -9,6 +9,7 @@ ghost use Rattle.terms.specs.declared.literals.Literal.{Literal};
 use crate::order::Ordered;
 use crate::roles::Role;
 use crate::roles::RoleDebug;
+use std::fmt;
 
 // How many concepts there are, and so how many literals of one kind and one role.
 const CONCEPTS: u32 = 256;
@@ -62,3 +63,19 @@ pub impl PartialEq<Literal> for Literal as LiteralPartialEq {
 }
 
 pub impl Eq for Literal as LiteralEq {}
+
+pub impl fmt::Display for Literal as LiteralDisplay {
+    fn fmt<W: fmt::Write>(&self, f: &mut fmt::Formatter<W>) -> fmt::Result {
+        match *self {
+            Literal::Concept(a) => write!(f, "{a}"),
+            Literal::Exists(e, a) => {
+                let role = e.code();
+                write!(f, "(some {role} {a})")
+            }
+            Literal::Forall(e, a) => {
+                let role = e.code();
+                write!(f, "(all {role} {a})")
+            }
+        }
+    }
+}

@@ -1,6 +1,8 @@
 // Why a call was refused. Each cause has a number and up to two values, A and B, which docs/REFUSALS.md lists.
 ghost use mathlib.Core.Path.{_≡_};
 ghost use Rattle.terms.specs.Refusals.{first-value, number, second-value};
+use std::error::Error;
+use std::fmt;
 
 #[derive(Clone, Copy, PartialEq, Eq, Debug)]
 pub enum Refusal {
@@ -136,3 +138,13 @@ impl Refusal {
         }
     }
 }
+
+pub impl fmt::Display for Refusal as RefusalDisplay {
+    fn fmt<W: fmt::Write>(&self, f: &mut fmt::Formatter<W>) -> fmt::Result {
+        let number = self.number();
+        let (first, second) = self.values();
+        write!(f, "refused {number} {first} {second}")
+    }
+}
+
+pub impl Error for Refusal as RefusalError {}

@@ -1,4 +1,5 @@
-// A role code. The struct stands alone, so that files of specs/ can name it; its methods are in the module below.
+// A role code. The struct stands apart, so that files of specs/ can name it; its other methods are in the module below.
+ghost use mathlib.Core.Path.{_≡_};
 ghost use Prim.Native.Nat.{_<_};
 ghost use Rattle.terms.specs.Limits.{role-codes};
 
@@ -15,4 +16,14 @@ pub const ROLE_CODES: u8 = 64;
 pub struct Role {
     code: u8,
     ghost ok: { code < role-codes },
+}
+
+impl Role {
+    /// The code, below 64.
+    pub fn code(self) -> u8
+        ensures value { λ r. ⌜ r ≡ self .code ⌝ }
+        ensures range { λ r. ⌜ r < role-codes ⌝ }
+    {
+        self.code
+    }
 }

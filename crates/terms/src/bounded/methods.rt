@@ -37,7 +37,7 @@ impl<T: Copy, const N: usize> Short<T, N> {
         ensures value { λ r. ⌜ r ≡ length (held (now (self .entry))) ⌝ }
         ensures few { λ r. ⌜ r ≤ N ⌝ }
     {
-        self.len
+        self.as_slice().len()
     }
 
     pub fn as_slice(&self) -> &[T]

@@ -32,13 +32,6 @@ impl Role {
         }
     }
 
-    pub fn code(self) -> u8
-        ensures value { λ r. ⌜ r ≡ self .code ⌝ }
-        ensures range { λ r. ⌜ r < role-codes ⌝ }
-    {
-        self.code
-    }
-
     /// The role name, below 32.
     pub fn name(self) -> u8
         ensures value { λ r. ⌜ r ≡ name-of (self .code) ⌝ }
