@@ -1,10 +1,11 @@
 // Why a call was refused. Each cause has a number and up to two values, A and B, which docs/REFUSALS.md lists.
 ghost use mathlib.Core.Path.{_≡_};
+ghost use Rattle.std.specs.Orderings.{Decides};
 ghost use Rattle.terms.specs.Refusals.{first-value, number, second-value};
 use std::error::Error;
 use std::fmt;
 
-#[derive(Clone, Copy, PartialEq, Eq, Debug)]
+#[derive(Clone, Copy)]
 pub enum Refusal {
     /// 1: the byte at this offset is wrong or missing.
     WrongByte { at: usize },
@@ -12,10 +13,8 @@ pub enum Refusal {
     OutOfRange { at: usize },
     /// 3: the item at this offset does not stand above the one before it.
     NotRising { at: usize },
-    /// 4: the item at this offset is one too many for its list.
-    ListTooLong { at: usize },
-    /// 4: the line or text is longer than this limit.
-    TextTooLong { limit: usize },
+    /// 4: a list, line or text is too long: at this offset stands the first item or byte too many.
+    TooLong { at: usize },
     /// 5: the book is closed, and the form is for an open one.
     BookClosed,
     /// 6: the book is open, and the form is for a closed one.
@@ -46,10 +45,8 @@ pub enum Refusal {
     ClaimDiffers { index: usize },
     /// 19: a table of the wrong length, or a sample with this many elements, which is not 1 to 64.
     SampleMisshapen { size: usize },
-    /// 20: this element is not in the sample.
-    ElementOutside { element: usize },
-    /// 20: this row of a table names an element that is not in the sample.
-    StrayRow { row: usize },
+    /// 20: this element is not in the sample; or this row of a table names an element that is not.
+    ElementOutside { at: usize },
     /// 21: the axiom fails in the sample, at this element.
     AxiomFails { axiom: usize, element: usize },
     /// 22: no element of the sample contradicts the subsumption.
@@ -67,8 +64,7 @@ impl Refusal {
             Refusal::WrongByte { at: _ } => 1,
             Refusal::OutOfRange { at: _ } => 2,
             Refusal::NotRising { at: _ } => 3,
-            Refusal::ListTooLong { at: _ } => 4,
-            Refusal::TextTooLong { limit: _ } => 4,
+            Refusal::TooLong { at: _ } => 4,
             Refusal::BookClosed => 5,
             Refusal::BookOpen => 6,
             Refusal::NoPlaceFree { limit: _ } => 7,
@@ -93,8 +89,7 @@ impl Refusal {
             Refusal::HeadTooLong { limit: _ } => 17,
             Refusal::ClaimDiffers { index: _ } => 18,
             Refusal::SampleMisshapen { size: _ } => 19,
-            Refusal::ElementOutside { element: _ } => 20,
-            Refusal::StrayRow { row: _ } => 20,
+            Refusal::ElementOutside { at: _ } => 20,
             Refusal::AxiomFails {
                 axiom: _,
                 element: _,
@@ -113,8 +108,7 @@ impl Refusal {
             Refusal::WrongByte { at } => (at, 0),
             Refusal::OutOfRange { at } => (at, 0),
             Refusal::NotRising { at } => (at, 0),
-            Refusal::ListTooLong { at } => (at, 0),
-            Refusal::TextTooLong { limit } => (limit, 0),
+            Refusal::TooLong { at } => (at, 0),
             Refusal::BookClosed => (0, 0),
             Refusal::BookOpen => (0, 0),
             Refusal::NoPlaceFree { limit } => (limit, 0),
@@ -130,12 +124,32 @@ impl Refusal {
             Refusal::HeadTooLong { limit } => (limit, 0),
             Refusal::ClaimDiffers { index } => (index, 0),
             Refusal::SampleMisshapen { size } => (size, 0),
-            Refusal::ElementOutside { element } => (element, 0),
-            Refusal::StrayRow { row } => (row, 0),
+            Refusal::ElementOutside { at } => (at, 0),
             Refusal::AxiomFails { axiom, element } => (axiom, element),
             Refusal::NoneContradicts => (0, 0),
             Refusal::MemoryTooShort { needed } => (needed, 0),
         }
+    }
+}
+
+// A refusal is known by its number and values.
+pub impl PartialEq<Refusal> for Refusal as RefusalPartialEq {
+    ghost equals = { λ x y t. Decides t (x ≡ y) };
+
+    fn eq(&self, other: &Refusal) -> bool {
+        let (first, second) = self.values();
+        let (other_first, other_second) = other.values();
+        self.number() == other.number() && first == other_first && second == other_second
+    }
+}
+
+pub impl Eq for Refusal as RefusalEq {}
+
+pub impl fmt::Debug for Refusal as RefusalDebug {
+    fn fmt<W: fmt::Write>(&self, f: &mut fmt::Formatter<W>) -> fmt::Result {
+        let number = self.number();
+        let (first, second) = self.values();
+        write!(f, "Refusal({number}, {first}, {second})")
     }
 }
 

@@ -38,7 +38,7 @@ fn a_list_made_from_a_slice() -> Result<(), Fail> {
 fn refusals_as_they_are_reported() -> Result<(), Fail> {
     check_eq(Refusal::WrongByte { at: 7 }.number(), 1)?;
     check_eq(Refusal::WrongByte { at: 7 }.values(), (7, 0))?;
-    check_eq(Refusal::TextTooLong { limit: 1024 }.number(), 4)?;
+    check_eq(Refusal::TooLong { at: 1024 }.number(), 4)?;
     check_eq(Refusal::BookClosed.values(), (0, 0))?;
     check_eq(
         Refusal::ClauseNotEntered {
