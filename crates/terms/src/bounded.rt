@@ -5,6 +5,7 @@ ghost use lib.ListN.{length};
 use std::alloc::AllocError;
 
 pub mod methods;
+pub mod rising;
 
 /// A list of at most N items, in place.
 pub struct Short<T, const N: usize> {

@@ -1,0 +1,4 @@
+pub mod Charts
+pub mod Judging
+pub mod Meanings
+pub mod Semantics
