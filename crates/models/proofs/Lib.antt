@@ -1,2 +1,5 @@
+pub mod Decided
 pub mod Search
+pub mod Truth
 pub mod Verdicts
+pub mod Words

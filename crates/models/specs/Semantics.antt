@@ -3,7 +3,9 @@
 use mathlib.Core.Path.{_≡_}
 use mathlib.Core.Bool.{Bool, true, false}
 use mathlib.Core.List.{List, [], _∷_, map}
-use Prim.Native.Nat.{ℕ}
+use Prim.Native.Nat.{ℕ, _<_}
+use Rattle.std.specs.Finite.{nth}
+use Rattle.std.specs.declared.option.Option.the-variants.{Some}
 use Rattle.terms.specs.Lists.{_∈_}
 use Rattle.terms.specs.Roles.{backwards, name-of}
 use Rattle.terms.specs.declared.literals.Literal.{Literal}
@@ -38,7 +40,7 @@ Pair I E x y = turned (backwards E) (I .role (name-of E)) x y
 -- x is in the literal: in the concept; or has a pair of E whose second element is in A; or has only such pairs of E
 abbrev pub Is-in : Interpretation → ℕ → Literal → Type 0
 Is-in I x (Concept A) = I .concept A x
-Is-in I x (Exists E A) = ∥ ((y : ℕ) × Pair I (E .code) x y × I .concept A y) ∥₁
+Is-in I x (Exists E A) = ∥ ((y : ℕ) × (Pair I (E .code) x y × I .concept A y)) ∥₁
 Is-in I x (Forall E A) = (y : ℕ) → Pair I (E .code) x y → I .concept A y
 
 -- x is in all the concepts K
@@ -47,7 +49,7 @@ In-all I x K = (A : ℕ) → A ∈ K → I .concept A x
 
 -- x is in at least one of the literals H
 abbrev pub In-some : Interpretation → ℕ → List Literal → Type 0
-In-some I x H = ∥ ((L : Literal) × (L ∈ H) × Is-in I x L) ∥₁
+In-some I x H = ∥ ((L : Literal) × ((L ∈ H) × Is-in I x L)) ∥₁
 
 -- each element in all of K is in at least one of H
 abbrev pub Implies : Interpretation → List ℕ → List Literal → Type 0
@@ -64,8 +66,16 @@ Models I sentences = (s : Sentence) → s ∈ sentences → Satisfies I s
 
 -- x is an element at which the sentence fails
 abbrev pub Fails-at : Interpretation → ℕ → Sentence → Type 0
-Fails-at I x (implies K H) = I .domain x × In-all I x K × (In-some I x H → ⊥)
-Fails-at I x (under E S) = ∥ ((y : ℕ) × Pair I E x y × (Pair I S x y → ⊥)) ∥₁
+Fails-at I x (implies K H) = I .domain x × (In-all I x K × (In-some I x H → ⊥))
+Fails-at I x (under E S) = ∥ ((y : ℕ) × (Pair I E x y × (Pair I S x y → ⊥))) ∥₁
+
+-- sentence number i fails at x, at no lower element, and every sentence before it is satisfied
+pub record Lowest-failure (I : Interpretation) (sentences : List Sentence) (i x : ℕ) : Type 0 where
+  pub sentence : Sentence
+  pub listed : nth sentences i ≡ Some sentence
+  pub fails : Fails-at I x sentence
+  pub not-below : (y : ℕ) → y < x → Fails-at I y sentence → ⊥
+  pub before : (k : ℕ) (s : Sentence) → k < i → nth sentences k ≡ Some s → Satisfies I s
 
 -- the subsumption of K by M, both lists of concepts, holds as a concept axiom would
 abbrev pub Subsumes : Interpretation → List ℕ → List ℕ → Type 0
@@ -73,7 +83,11 @@ Subsumes I K M = Implies I K (map Concept M)
 
 -- x contradicts it: it is in all of K and in none of M
 abbrev pub Contradicts : Interpretation → List ℕ → List ℕ → ℕ → Type 0
-Contradicts I K M x = I .domain x × In-all I x K × ((B : ℕ) → B ∈ M → I .concept B x → ⊥)
+Contradicts I K M x = I .domain x × (In-all I x K × ((B : ℕ) → B ∈ M → I .concept B x → ⊥))
+
+-- x contradicts it, and no lower element does
+abbrev pub Lowest-contradiction : Interpretation → List ℕ → List ℕ → ℕ → Type 0
+Lowest-contradiction I K M x = Contradicts I K M x × ((y : ℕ) → y < x → Contradicts I K M y → ⊥)
 
 -- ---- interpretations whose sets are given by tests
 

@@ -1,8 +1,17 @@
 // Whether a sample of any kind satisfies axioms, and where it contradicts a subsumption.
 ghost use mathlib.Core.Path.{_≡_};
 ghost use mathlib.Core.List.{map};
+ghost use Prim.Native.Nat.{ℕ};
+ghost use Rattle.std.specs.Options.{Cases as BySome};
+ghost use Rattle.std.specs.Orderings.{Decides};
+ghost use Rattle.std.specs.Results.{isOk};
+ghost use Rattle.std.specs.declared.option.Option.the-variants.{None};
+ghost use Rattle.std.specs.declared.result.Result.the-variants.{Err};
+ghost use Rattle.terms.specs.declared.refusals.Refusal.the-variants.{AxiomFails};
 ghost use Rattle.models.specs.Charts.{sentence-of};
 ghost use Rattle.models.specs.Judging.{all-test, any-test, contradiction, contradicts-test, fails-test, filler-at, filler-test, first-failure, judged-from, literal-test, missing-at, missing-test, pair-test, some-test, verdict};
+ghost use Rattle.models.specs.Meanings.{fault-of, interpretation};
+ghost use Rattle.models.specs.Semantics.{Contradicts, Lowest-contradiction, Lowest-failure, Models};
 use crate::charts::Axiom;
 use crate::samples::Sample;
 use terms::Literal;
@@ -136,7 +145,9 @@ fn lowest_failure<S: Sample>(sample: &S, axiom: Axiom) -> Option<u8>
 
 /// The sample's own fault (19 or 20), or else the lowest axiom that fails in it, with the lowest element at which it does (21).
 pub fn judge<S: Sample>(axioms: &[Axiom], sample: &S) -> Result<(), Refusal>
-    ensures { λ r. ⌜ r ≡ verdict (meaning (now (sample .entry))) (map sentence-of (now (axioms .entry))) ⌝ }
+    ensures value { λ r. ⌜ r ≡ verdict (meaning (now (sample .entry))) (map sentence-of (now (axioms .entry))) ⌝ }
+    ensures passes { λ r. ⌜ (fault-of (meaning (now (sample .entry))) ≡ None → Decides (isOk r) (Models (interpretation (meaning (now (sample .entry)))) (map sentence-of (now (axioms .entry))))) ⌝ }
+    ensures fails { λ r. ⌜ ((i x : ℕ) → fault-of (meaning (now (sample .entry))) ≡ None → r ≡ Err (AxiomFails i x) → Lowest-failure (interpretation (meaning (now (sample .entry)))) (map sentence-of (now (axioms .entry))) i x) ⌝ }
 {
     match sample.fault() {
         Some(fault) => Err(fault.refusal()),
@@ -161,7 +172,8 @@ fn judge_axioms<S: Sample>(axioms: &[Axiom], sample: &S) -> Result<(), Refusal>
 
 /// The lowest element in all of `left` and in none of `right`, if there is one.
 pub fn lowest_contradiction<S: Sample>(left: &[u8], right: &[u8], sample: &S) -> Option<u8>
-    ensures { λ r. ⌜ r ≡ contradiction (meaning (now (sample .entry))) (now (left .entry)) (now (right .entry)) ⌝ }
+    ensures value { λ r. ⌜ r ≡ contradiction (meaning (now (sample .entry))) (now (left .entry)) (now (right .entry)) ⌝ }
+    ensures means { λ r. ⌜ (fault-of (meaning (now (sample .entry))) ≡ None → BySome r ((x : ℕ) → Contradicts (interpretation (meaning (now (sample .entry)))) (now (left .entry)) (now (right .entry)) x → ⊥) (Lowest-contradiction (interpretation (meaning (now (sample .entry)))) (now (left .entry)) (now (right .entry)))) ⌝ }
 {
     for x in 0..sample.size() {
         if contradicts_at(left, right, sample, x) {
