@@ -1,3 +1,4 @@
+pub mod Bytes
 pub mod Decided
 pub mod Search
 pub mod Truth

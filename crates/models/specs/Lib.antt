@@ -2,3 +2,4 @@ pub mod Charts
 pub mod Judging
 pub mod Meanings
 pub mod Semantics
+pub mod Tables

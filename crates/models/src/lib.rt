@@ -3,8 +3,10 @@ pub mod axioms;
 pub mod charts;
 pub mod judge;
 pub mod samples;
+pub mod tables;
 
 pub use axioms::ConceptAxiom;
 pub use charts::Axiom;
 pub use samples::Fault;
 pub use samples::Sample;
+pub use tables::Table;
