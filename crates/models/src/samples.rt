@@ -3,6 +3,9 @@ ghost use mathlib.Core.Path.{_≡_};
 ghost use Rattle.models.specs.Meanings.{Meaning, element-in, fault-of, linked, refusal-of};
 use terms::Refusal;
 
+/// The most elements that a sample has: 0 to 63.
+pub const ELEMENT_LIMIT: u8 = 64;
+
 /// What keeps a sample from being judged.
 #[derive(Clone, Copy)]
 pub enum Fault {

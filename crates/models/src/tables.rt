@@ -8,17 +8,13 @@ ghost use lib.ListN.{length};
 ghost use Rattle.terms.specs.Tables.{weight};
 ghost use Rattle.models.specs.Meanings.{element-in, linked};
 ghost use Rattle.models.specs.Tables.{is-shaped, lowest-stray, row, row-bit, table-meaning};
+use crate::samples::ELEMENT_LIMIT;
 use crate::samples::Fault;
 use crate::samples::Sample;
-
-/// The most elements that a sample has.
-pub const ELEMENT_LIMIT: u8 = 64;
+use terms::roles::ROLE_NAMES;
 
 // How many concepts there are, and so how many rows stand before those of the role names.
 const CONCEPT_ROWS: u16 = 256;
-
-// How many role names there are, and so how many rows stand for each element.
-const ROLE_NAMES: u8 = 32;
 
 /// A table of 8 × (256 + 32 × N) bytes and its size N. A row is 8 bytes, highest byte first, and its weight 2^x stands for element x. Row A
 /// holds the elements of concept A; row 256 + r × N + X holds the elements to which the role name r links X.
