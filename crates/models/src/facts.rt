@@ -1,5 +1,6 @@
 // What an entry of a sample list says.
 ghost use mathlib.Core.Path.{_≡_};
+ghost use Rattle.std.specs.Orderings.{Decides};
 ghost use Rattle.models.specs.Facts.{fact-same};
 
 /// One fact of a sample.
@@ -14,7 +15,8 @@ pub enum Fact {
 impl Fact {
     /// Whether the two facts are the same.
     pub fn is_same(self, other: Fact) -> bool
-        ensures { λ r. ⌜ r ≡ fact-same self other ⌝ }
+        ensures value { λ r. ⌜ r ≡ fact-same self other ⌝ }
+        ensures means { λ r. ⌜ Decides r (self ≡ other) ⌝ }
     {
         match self {
             Fact::In {
