@@ -1,9 +1,12 @@
-//! A tour of Hevtsuro's library: what role inclusions make each role reach, and the head that two premises resolve to.
+//! A tour of Hevtsuro's library: what role inclusions make each role reach, the head that two premises resolve to, and a sample that is
+//! judged against a chart.
 mod heads;
+mod judging;
 mod words;
 
 use heads::head_of;
 use heads::resolvent;
+use judging::show_samples;
 use std::error::AnyError;
 use terms::Literal;
 use terms::Reach;
@@ -25,7 +28,10 @@ fn run(rt: &impl Print) -> Result<(), AnyError> {
     show_roles(rt)?;
     println!(rt, "")?;
     println!(rt, "2. What two premises resolve to")?;
-    show_resolution(rt)
+    show_resolution(rt)?;
+    println!(rt, "")?;
+    println!(rt, "3. A sample judged")?;
+    show_samples(rt)
 }
 
 fn show_roles(rt: &impl Print) -> Result<(), AnyError> {
