@@ -1,0 +1,4 @@
+//! The book: the rules by which clauses are entered, and what they mean. Nothing of it is public yet: the book comes with the whole law that
+//! its call keeps.
+mod sound;
+mod steps;
