@@ -1,4 +1,5 @@
 //! The book: the rules by which clauses are entered, and what they mean. Nothing of it is public yet: the book comes with the whole law that
 //! its call keeps.
+mod rows;
 mod sound;
 mod steps;
