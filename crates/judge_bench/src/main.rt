@@ -45,7 +45,7 @@ fn run(rt: &LibcRuntime) -> Result<(), AnyError> {
     Ok(())
 }
 
-// Every element is in the left concepts 0 to 7 and in the last right literal, `all 12 0`; the seven before it fail at the last pair.
+// Every element is in the left concepts 0 to 7 and in the last right literal; the six before it fail after a look at every pair.
 fn slow_axiom() -> Result<Axiom, Refusal> {
     let missing = 200;
     let right = [
