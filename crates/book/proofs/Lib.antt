@@ -1,3 +1,7 @@
 pub mod Caps
+pub mod HyperTie
+pub mod Passing
+pub mod Placed
 pub mod Places
 pub mod Rules
+pub mod Walks

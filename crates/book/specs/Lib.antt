@@ -1,3 +1,5 @@
+pub mod Checks
 pub mod Fronts
+pub mod Limits
 pub mod Register
 pub mod Truth

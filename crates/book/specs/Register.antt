@@ -1,10 +1,10 @@
 -- The register: what a book holds, in lists, and what the rules yield from it, in the words of sets. Nothing here speaks of refusals, of
 -- memory, or of the order in which a book looks at things. Assumes nothing.
 use mathlib.Core.Path.{_≡_}
-use mathlib.Core.Bool.{Bool}
+use mathlib.Core.Bool.{Bool, true}
 use mathlib.Core.List.{List, [], _∷_}
 use mathlib.Core.Logic.{_⊎_, _↔_}
-use Prim.Native.Nat.{ℕ}
+use Prim.Native.Nat.{ℕ, _<_, _≤_}
 use lib.ListN.{length}
 use Rattle.std.specs.Finite.{nth}
 use Rattle.std.specs.declared.option.Option.the-variants.{Some}
@@ -15,6 +15,7 @@ use Rattle.terms.specs.declared.literals.Literal.{Literal}
 use Rattle.terms.specs.declared.literals.Literal.the-variants.{Concept, Exists, Forall}
 use Rattle.terms.specs.declared.roles.Role.{Role}
 use Rattle.models.specs.Semantics.{Sentence, implies, under}
+use Rattle.book.specs.Limits.{clause-limit, scratch-needed}
 use Rattle.book.specs.declared.steps.Side.{Side}
 
 -- a clause: each element in all of the core of its context is in at least one literal of its head
@@ -52,6 +53,12 @@ abbrev pub pairs : {X Y : Type 0} → List X → List Y → List (X × Y)
 pairs [] ys = []
 pairs (x ∷ xs) [] = []
 pairs (x ∷ xs) (y ∷ ys) = (x, y) ∷ pairs xs ys
+
+-- what every step needs: a closed register, room for one more clause, and scratch of the length that is asked for
+pub record Ready (R : Register) (scratch : ℕ) : Type 0 where
+  pub closed : R .closed ≡ true
+  pub room : length (R .clauses) < clause-limit
+  pub long : scratch-needed ≤ scratch
 
 -- ---- core: A is in the core of V; the head is A alone
 
