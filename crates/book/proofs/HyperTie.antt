@@ -31,7 +31,7 @@ use Rattle.book.proofs.Walks.{walk-each, walk-has, walk-out, walk-rises}
 
 -- ---- core
 
-concept-order : TotalOrder ltb
+pub concept-order : TotalOrder ltb
 concept-order = record {
   irreflexive = λ x. grind (arith, tells);
   transitive = λ x y z p q. grind (arith, tells);

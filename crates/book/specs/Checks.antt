@@ -110,3 +110,49 @@ abbrev pub hyper-check : Register → ℕ → ℕ → ℕ → List ℕ → List 
 hyper-check R scratch V X premises claim =
     and-then (ready R scratch) (λ _. and-then (core-of R V) (λ _. and-then (sides-of (NoConceptAxiom X) (nth (R .axioms) X)) (λ s.
     and-then (hyper-row R V (s .0) premises (s .1)) (λ row. claimed row claim))))
+
+-- ---- pred
+
+-- the head of a side's clause, if E reaches the side's role
+abbrev pub side-head : Register → ℕ → ℕ → ℕ → Side → Result (List Literal) Refusal
+side-head R i V E s =
+    and-then (premise-head (R .clauses) i V (s .clause) (side-literal s)) (λ H. and-then (passes (reaches-test R E (s .role .code)) (RoleNotReached i)) (λ _. Ok H))
+
+-- sides are counted from 1, after the first premise
+abbrev pub side-test : Register → ℕ → ℕ → ℕ → Side → Result (List Literal) Refusal
+side-test R V E i s = side-head R (i + 1) V E s
+
+abbrev pub side-brings : Side → List Literal → List Literal
+side-brings s H = removal literal-precedes (side-literal s) H
+
+-- what the clauses of V give: the first premise without `some E A`, and each side without its own literal
+abbrev pub near-row : Register → ℕ → ℕ → Role → ℕ → List Side → Result (List Literal) Refusal
+near-row R V P E A sides =
+    and-then (premise-head (R .clauses) 0 V P (Exists E A)) (λ H. walked (side-test R V (E .code)) side-brings 0 sides (placed-all literal-precedes (removal literal-precedes (Exists E A) H) []))
+
+-- the concepts that the core of the far context is to be
+abbrev pub core-named : ℕ → List Side → List ℕ
+core-named A sides = A ∷ map (λ s. s .concept) sides
+
+abbrev pub same-core : ℕ → List ℕ → List ℕ → Result (Unit {0}) Refusal
+same-core U K names = passes (contained ltb K names && contained ltb names K) (CoreDiffers U)
+
+-- the concept that literal i of the far head brings back
+abbrev pub back-test : Register → ℕ → ℕ → Literal → Result ℕ Refusal
+back-test R E i (Concept C) = Err (LiteralUnfit i)
+back-test R E i (Exists T C) = Err (LiteralUnfit i)
+back-test R E i (Forall T C) = and-then (passes (reaches-test R (mirror E) (T .code)) (LiteralUnfit i)) (λ _. Ok C)
+
+abbrev pub back-brings : Literal → ℕ → List Literal
+back-brings L C = Concept C ∷ []
+
+-- the row with what the far clause brings back
+abbrev pub far-row : Register → ℕ → ℕ → List Side → Clause → List Literal → Result (List Literal) Refusal
+far-row R E A sides c row =
+    and-then (required (CoreDiffers (c .context)) (nth (R .contexts) (c .context))) (λ K. and-then (same-core (c .context) K (core-named A sides)) (λ _.
+    walked (back-test R E) back-brings 0 (c .head) row))
+
+abbrev pub pred-check : Register → ℕ → ℕ → ℕ → Role → ℕ → List Side → ℕ → List Literal → Result (Unit {0}) Refusal
+pred-check R scratch V P E A sides Q claim =
+    and-then (ready R scratch) (λ _. and-then (core-of R V) (λ _. and-then (near-row R V P E A sides) (λ row.
+    and-then (required (ClauseNotEntered (length sides + 1) Q) (nth (R .clauses) Q)) (λ c. and-then (far-row R (E .code) A sides c row) (λ whole. claimed whole claim)))))

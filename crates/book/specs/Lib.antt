@@ -1,4 +1,5 @@
 pub mod Checks
+pub mod Exactness
 pub mod Fronts
 pub mod Limits
 pub mod Register

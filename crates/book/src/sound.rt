@@ -1,10 +1,14 @@
-// What the rules yield is true.
+// What is proved of the rules: they yield what is true, and a step passes its checks exactly when its rule yields its claim.
+ghost use Rattle.book.specs.Exactness.{Steps-exact};
 ghost use Rattle.book.specs.Truth.{Rules-hold};
 use models::Interpreted;
 
 // In every interpretation, finite or infinite, the rules yield what is true.
-fn rules_hold<I: Interpreted>() -> u8
+fn rules_hold<I: Interpreted>()
     ensures { λ _. ⌜ Rules-hold (I·Interpreted .meaning) ⌝ }
-{
-    0
-}
+{}
+
+// The checks of a step pass exactly when its rule yields its claim.
+fn steps_are_exact()
+    ensures { λ _. ⌜ Steps-exact ⌝ }
+{}
