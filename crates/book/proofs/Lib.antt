@@ -1,8 +1,12 @@
 pub mod Caps
 pub mod HyperTie
 pub mod Passing
+pub mod Pasts
 pub mod Placed
 pub mod Places
 pub mod PredTie
+pub mod Replied
 pub mod Rules
+pub mod Standing
+pub mod Taking
 pub mod Walks

@@ -10,8 +10,9 @@ use Rattle.std.specs.declared.result.Result.the-variants.{Ok}
 use Rattle.terms.specs.declared.refusals.Refusal.{Refusal}
 use Rattle.models.specs.Meanings.{Meaning, fault-of, interpretation}
 use Rattle.models.specs.Semantics.{Lowest-contradiction, Models, Subsumes, Tests, of-tests}
-use Rattle.book.specs.Events.{Enters, Event, Strengthens, Takes, ask, close, empty, grown, number, refute}
+use Rattle.book.specs.Events.{Enters, Event, Strengthens, Takes, Well, ask, close, empty, grown, number, refute}
 use Rattle.book.specs.Register.{Register}
+use Rattle.book.specs.Replies.{after, reply}
 use Rattle.book.specs.declared.answers.Answer.{Answer}
 use Rattle.book.specs.declared.answers.Answer.the-variants.{Closed, Entered, Refuted, Shown}
 
@@ -58,3 +59,14 @@ pub record Law (p : Past) : Type 0 where
   -- a closed book answers shown n exactly when n is the lowest clause that strengthens the subsumption
   pub shown-exactly : (s : Said) (q : Past) (R : Register) (K M : List ℕ) (n : ℕ) → Moment s q p → Gives q R → s .call ≡ ask K M
     → (s .answer ≡ Ok (Shown n)) ↔ ((R .closed ≡ true) × Strengthens R K M n × ((k : ℕ) → k < n → Strengthens R K M k → ⊥))
+
+-- how a book came to hold R: it was new, and each call got its reply and left what it leaves
+pub data Had : Past → Register → Type 0 where
+  new : Had [] empty
+  called : {p : Past} {R : Register} (s : Said) (S : Register) → Had p R → Well (s .call) → s .answer ≡ reply R (s .call) → S ≡ after R (s .call) → Had (s ∷ p) S
+
+-- the law holds of every past of every book, and every past has one register
+pub record Every-past : Type 0 where
+  pub lawful : (p : Past) (R : Register) → Had p R → Law p
+  pub one-register : (p : Past) (R : Register) → Had p R → Gives p R
+  pub no-other : (p : Past) (R S : Register) → Gives p R → Gives p S → R ≡ S
