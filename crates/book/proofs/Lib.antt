@@ -7,6 +7,7 @@ pub mod Places
 pub mod PredTie
 pub mod Replied
 pub mod Rules
+pub mod Shown
 pub mod Standing
 pub mod Taking
 pub mod Walks
