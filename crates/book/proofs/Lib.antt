@@ -1,5 +1,6 @@
 pub mod Caps
 pub mod HyperTie
+pub mod Lawful
 pub mod Passing
 pub mod Pasts
 pub mod Placed

@@ -43,9 +43,9 @@ use Rattle.book.proofs.Taking.{Changes, exactly}
 entered-by : (R : Register) (e : Event) → Well e → Changes e → granted R e ≡ Ok (Entered (number R e)) → (n : ℕ) → (reply R e ≡ Ok (Entered n)) ↔ (Unit {0} × (n ≡ number R e) × Takes R e)
 entered-by R e w c grants n = (
   λ h.
-    let a = and-then-ok (check R e) _ (Entered n) h in
-    let same : number R e ≡ n = let g = sym grants ∙ a .2 in cc in
-    (tt, sym same, exactly R e w c .0 (a .1)),
+      let a = and-then-ok (check R e) _ (Entered n) h in
+      let same : number R e ≡ n = let g = sym grants ∙ a .2 in cc in
+      (tt, sym same, exactly R e w c .0 (a .1)),
   λ p. and-then-on (check R e) _ tt (exactly R e w c .1 (p .2)) ∙ grants ∙ ap (λ (k : ℕ). Ok (Entered k)) (sym (p .1)),
 )
 
@@ -95,8 +95,8 @@ only-close R (refute K M m) h = absurd (refuted-not-closed (contradiction m K M)
 pub closed-reply : (R : Register) (e : Event) → (reply R e ≡ Ok Closed) ↔ ((e ≡ close) × (R .closed ≡ false))
 closed-reply R e = (
   λ h.
-    let a = and-then-ok (check R e) _ Closed h in
-    let is = only-close R e (a .2) in
-    (is, not-true _ (passes-ok (not (R .closed)) BookClosed tt (subst (λ (d : Event). check R d ≡ Ok tt) is (a .1)))),
+      let a = and-then-ok (check R e) _ Closed h in
+      let is = only-close R e (a .2) in
+      (is, not-true _ (passes-ok (not (R .closed)) BookClosed tt (subst (λ (d : Event). check R d ≡ Ok tt) is (a .1)))),
   λ p. subst (λ (d : Event). reply R d ≡ Ok Closed) (sym (p .0)) (and-then-on (check R close) (λ _. granted R close) tt (passes-yes (not (R .closed)) BookClosed (not-from-false _ (p .1)))),
 )

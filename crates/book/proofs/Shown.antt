@@ -143,9 +143,9 @@ module _ (R : Register) (K M : List ℕ) where
   pub shown-reply : (n : ℕ) → (reply R (ask K M) ≡ Ok (Shown n)) ↔ ((R .closed ≡ true) × Strengthens R K M n × ((k : ℕ) → k < n → Strengthens R K M k → ⊥))
   shown-reply n = (
     λ h.
-      let a = and-then-ok (passes (R .closed) BookOpen) _ (Shown n) h in
-      let l = lowest-covers n (found (lowest-clause R K M 0 (R .clauses)) (a .2)) in
-      (passes-ok (R .closed) BookOpen (a .0) (a .1), l .0, l .1),
+        let a = and-then-ok (passes (R .closed) BookOpen) _ (Shown n) h in
+        let l = lowest-covers n (found (lowest-clause R K M 0 (R .clauses)) (a .2)) in
+        (passes-ok (R .closed) BookOpen (a .0) (a .1), l .0, l .1),
     λ p. and-then-on (passes (R .closed) BookOpen) _ tt (passes-yes (R .closed) BookOpen (p .0)) ∙ ap shown-by (covers-lowest n (p .1, p .2)),
   )
     where

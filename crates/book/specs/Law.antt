@@ -39,26 +39,21 @@ pub data Moment (s : Said) (q : Past) : Past → Type 0 where
 pub record Law (p : Past) : Type 0 where
   -- what is shown holds in every interpretation, finite or infinite, that satisfies the axioms
   pub shown-holds : (s : Said) (q : Past) (R : Register) (K M : List ℕ) (n : ℕ) → Moment s q p → Gives q R → s .call ≡ ask K M → s .answer ≡ Ok (Shown n)
-    → (T : Tests) → Models (of-tests T) (R .axioms) → Subsumes (of-tests T) K M
-
+      → (T : Tests) → Models (of-tests T) (R .axioms) → Subsumes (of-tests T) K M
   -- a closed book answers refuted x exactly when the sample has no fault and satisfies every axiom, and x is the lowest element that contradicts
   pub refuted-exactly : (s : Said) (q : Past) (R : Register) (K M : List ℕ) (m : Meaning) (x : ℕ) → Moment s q p → Gives q R → s .call ≡ refute K M m
-    → (s .answer ≡ Ok (Refuted x)) ↔ ((R .closed ≡ true) × (fault-of m ≡ None) × Models (interpretation m) (R .axioms) × Lowest-contradiction (interpretation m) K M x)
-
+      → (s .answer ≡ Ok (Refuted x)) ↔ ((R .closed ≡ true) × (fault-of m ≡ None) × Models (interpretation m) (R .axioms) × Lowest-contradiction (interpretation m) K M x)
   -- no subsumption is answered both shown and refuted, in either order and at any distance
   pub never-both : (s t : Said) (q r : Past) (K M : List ℕ) (m : Meaning) (n x : ℕ) → Moment s q p → Moment t r p
-    → s .call ≡ ask K M → s .answer ≡ Ok (Shown n) → t .call ≡ refute K M m → t .answer ≡ Ok (Refuted x) → ⊥
-
+      → s .call ≡ ask K M → s .answer ≡ Ok (Shown n) → t .call ≡ refute K M m → t .answer ≡ Ok (Refuted x) → ⊥
   -- something is entered under n exactly when the register of the calls before takes it, and n is its number there
   pub entered-exactly : (s : Said) (q : Past) (R : Register) (n : ℕ) → Moment s q p → Gives q R
-    → (s .answer ≡ Ok (Entered n)) ↔ (Enters (s .call) × (n ≡ number R (s .call)) × Takes R (s .call))
-
+      → (s .answer ≡ Ok (Entered n)) ↔ (Enters (s .call) × (n ≡ number R (s .call)) × Takes R (s .call))
   -- the book is closed exactly when it is open and asked to close
   pub closed-exactly : (s : Said) (q : Past) (R : Register) → Moment s q p → Gives q R → (s .answer ≡ Ok Closed) ↔ ((s .call ≡ close) × (R .closed ≡ false))
-
   -- a closed book answers shown n exactly when n is the lowest clause that strengthens the subsumption
   pub shown-exactly : (s : Said) (q : Past) (R : Register) (K M : List ℕ) (n : ℕ) → Moment s q p → Gives q R → s .call ≡ ask K M
-    → (s .answer ≡ Ok (Shown n)) ↔ ((R .closed ≡ true) × Strengthens R K M n × ((k : ℕ) → k < n → Strengthens R K M k → ⊥))
+      → (s .answer ≡ Ok (Shown n)) ↔ ((R .closed ≡ true) × Strengthens R K M n × ((k : ℕ) → k < n → Strengthens R K M k → ⊥))
 
 -- how a book came to hold R: it was new, and each call got its reply and left what it leaves
 pub data Had : Past → Register → Type 0 where
