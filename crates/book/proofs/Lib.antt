@@ -1,6 +1,7 @@
 pub mod Caps
 pub mod HyperTie
 pub mod Lawful
+pub mod Listed
 pub mod Passing
 pub mod Pasts
 pub mod Placed

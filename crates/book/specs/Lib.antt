@@ -1,4 +1,5 @@
 pub mod Checks
+pub mod Contents
 pub mod Events
 pub mod Exactness
 pub mod Fronts
@@ -7,3 +8,4 @@ pub mod Limits
 pub mod Register
 pub mod Replies
 pub mod Truth
+pub mod Views

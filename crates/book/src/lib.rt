@@ -1,6 +1,9 @@
 //! The book: the rules by which clauses are entered, and what they mean. Nothing of it is public yet: the book comes with the whole law that
 //! its call keeps.
 mod answers;
+mod checks;
+mod clauses;
 mod rows;
 mod sound;
+mod state;
 mod steps;
