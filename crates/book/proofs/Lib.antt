@@ -1,7 +1,9 @@
 pub mod Caps
+pub mod Gathers
 pub mod HyperTie
 pub mod Lawful
 pub mod Listed
+pub mod Pairs
 pub mod Passing
 pub mod Pasts
 pub mod Placed

@@ -102,9 +102,13 @@ premise-brings p H = removal literal-precedes (Concept (p .0)) H
 abbrev pub gathered : List Clause → ℕ → List ℕ → List ℕ → List Literal → Result (List Literal) Refusal
 gathered clauses V left premises row = walked (premise-test clauses V) premise-brings 0 (pairs left premises) row
 
+-- there are as many premises as left concepts
+abbrev pub counted : ℕ → ℕ → Result (Unit {0}) Refusal
+counted premises left = passes (eqb premises left) (PremisesMiscounted premises left)
+
 abbrev pub hyper-row : Register → ℕ → List ℕ → List ℕ → List Literal → Result (List Literal) Refusal
 hyper-row R V left premises right =
-    and-then (passes (eqb (length premises) (length left)) (PremisesMiscounted (length premises) (length left))) (λ _. gathered (R .clauses) V left premises (placed-all literal-precedes right []))
+    and-then (counted (length premises) (length left)) (λ _. gathered (R .clauses) V left premises (placed-all literal-precedes right []))
 
 abbrev pub hyper-check : Register → ℕ → ℕ → ℕ → List ℕ → List Literal → Result (Unit {0}) Refusal
 hyper-check R scratch V X premises claim =

@@ -3,9 +3,9 @@ ghost use mathlib.Core.Path.{_≡_};
 ghost use Rattle.std.specs.declared.option.Option.the-variants.{None};
 ghost use Rattle.terms.specs.Shorts.{held};
 ghost use Rattle.models.specs.Charts.{sentence-of};
-ghost use Rattle.book.specs.Checks.{claimed, core-of, premise-head, reaches-test, ready, required, sides-of};
+ghost use Rattle.book.specs.Checks.{claimed, core-of, counted, premise-head, ready, required, sides-of};
 ghost use Rattle.book.specs.Contents.{clause-of, contents};
-ghost use Rattle.book.specs.Views.{seen};
+ghost use Rattle.book.specs.Views.{both-sides, seen};
 ghost use Rattle.std.specs.Finite.{nth};
 ghost use Rattle.terms.specs.declared.refusals.Refusal.the-variants.{ClauseNotEntered, NoConceptAxiom};
 use crate::clauses::Clause;
@@ -62,6 +62,19 @@ impl Book {
         }
     }
 
+    // Axiom number x, which is to be a concept axiom.
+    pub(crate) fn concept_axiom(&self, x: u16) -> Result<ConceptAxiom, Refusal>
+        ensures { λ r. ⌜ seen both-sides r ≡ sides-of (NoConceptAxiom x) (nth (contents (now (self .entry)) .axioms) x) ⌝ }
+    {
+        let Some(found) = self.axioms.get(x as usize) else {
+            return Err(Refusal::NoConceptAxiom { axiom: x as usize });
+        };
+        match found {
+            Axiom::Implies(axiom) => Ok(axiom),
+            Axiom::Under(_, _) => Err(Refusal::NoConceptAxiom { axiom: x as usize }),
+        }
+    }
+
     // Clause number n, which is premise i.
     pub(crate) fn clause_at(&self, i: usize, n: u16) -> Result<Clause, Refusal>
         ensures { λ r. ⌜ seen clause-of r ≡ required (ClauseNotEntered i n) (nth (contents (now (self .entry)) .clauses) n) ⌝ }
@@ -96,6 +109,20 @@ impl Book {
         } else {
             Err(Refusal::LiteralAbsent { premise: i })
         }
+    }
+}
+
+// There are as many premises as left concepts.
+pub(crate) fn is_count(premises: usize, left: usize) -> Result<(), Refusal>
+    ensures { λ r. ⌜ r ≡ counted premises left ⌝ }
+{
+    if premises == left {
+        Ok(())
+    } else {
+        Err(Refusal::PremisesMiscounted {
+            given: premises,
+            needed: left,
+        })
     }
 }
 

@@ -3,6 +3,7 @@
 mod answers;
 mod checks;
 mod clauses;
+mod hyper;
 mod rows;
 mod sound;
 mod state;
