@@ -1,4 +1,5 @@
 pub mod Caps
+pub mod Claims
 pub mod Gathers
 pub mod HyperTie
 pub mod Lawful

@@ -3,13 +3,18 @@ ghost use mathlib.Core.Path.{_≡_};
 ghost use mathlib.Core.List.{List};
 ghost use Prim.Native.Nat.{_≤_};
 ghost use lib.ListN.{length};
+ghost use Rattle.terms.specs.Shorts.{held};
 ghost use Rattle.terms.specs.declared.literals.Literal.{Literal};
-ghost use Rattle.book.specs.Checks.{gathered};
+ghost use Rattle.book.specs.Checks.{gathered, hyper-check, hyper-row};
 ghost use Rattle.book.specs.Contents.{contents};
 ghost use Rattle.book.specs.Fronts.{Capped};
 ghost use Rattle.book.specs.Views.{Row-in};
+use crate::checks::is_claimed;
+use crate::checks::is_count;
+use crate::rows::put_all;
 use crate::rows::put_but;
 use crate::state::Book;
+use models::ConceptAxiom;
 use terms::Literal;
 use terms::Refusal;
 use terms::literals::LiteralOrder;
@@ -35,5 +40,38 @@ impl Book {
             n = put_but(out, n, head.as_slice(), own);
         }
         Ok(n)
+    }
+
+    // Puts the right literals, and what each premise has besides its own concept, into the front of `out`.
+    fn hyper_row(
+        &self,
+        v: u8,
+        implied: &ConceptAxiom,
+        premises: &[u16],
+        out: &mut [Literal],
+    ) -> Result<usize, Refusal>
+        ensures { λ r. ⌜ Row-in (now (out .exit)) r (hyper-row (contents (now (self .entry))) v (held (now (implied .entry) .left)) (now (premises .entry)) (held (now (implied .entry) .right))) ⌝ }
+    {
+        is_count(premises.len(), implied.left().len())?;
+        let n = put_all(out, 0, implied.right());
+        self.gather(v, implied.left(), premises, out, n)
+    }
+
+    // Whether the step is entered. What it leaves in the scratch is for the caller to clear.
+    fn check_hyper(
+        &self,
+        v: u8,
+        x: u16,
+        premises: &[u16],
+        claim: &[Literal],
+        scratch: &mut [Literal],
+    ) -> Result<(), Refusal>
+        ensures { λ r. ⌜ r ≡ hyper-check (contents (now (self .entry))) (length (now (scratch .entry))) v x (now (premises .entry)) (now (claim .entry)) ⌝ }
+    {
+        self.ready(scratch.len())?;
+        self.core_of(v)?;
+        let implied = self.concept_axiom(x)?;
+        let n = self.hyper_row(v, &implied, premises, scratch)?;
+        is_claimed(&scratch[0..n], claim)
     }
 }
