@@ -2,21 +2,27 @@
 ghost use mathlib.Core.Path.{_≡_};
 ghost use mathlib.Core.List.{List};
 ghost use Prim.Native.Nat.{_≤_};
-ghost use lib.ListN.{length};
+ghost use lib.ListN.{length, replicate};
 ghost use Rattle.terms.specs.Shorts.{held};
 ghost use Rattle.terms.specs.declared.literals.Literal.{Literal};
 ghost use Rattle.book.specs.Checks.{gathered, hyper-check, hyper-row};
 ghost use Rattle.book.specs.Contents.{contents};
+ghost use Rattle.terms.specs.declared.literals.Literal.the-variants.{Concept};
+ghost use Rattle.book.specs.Events.{hyper};
 ghost use Rattle.book.specs.Fronts.{Capped};
+ghost use Rattle.book.specs.Replies.{after, reply};
 ghost use Rattle.book.specs.Views.{Row-in};
+use crate::answers::Answer;
 use crate::checks::is_claimed;
 use crate::checks::is_count;
+use crate::clauses::HEAD_LIMIT;
 use crate::rows::put_all;
 use crate::rows::put_but;
 use crate::state::Book;
 use models::ConceptAxiom;
 use terms::Literal;
 use terms::Refusal;
+use terms::Short;
 use terms::literals::LiteralOrder;
 
 impl Book {
@@ -73,5 +79,23 @@ impl Book {
         let implied = self.concept_axiom(x)?;
         let n = self.hyper_row(v, &implied, premises, scratch)?;
         is_claimed(&scratch[0..n], claim)
+    }
+
+    // The hyper step: the clause `claim` of v, from axiom x and a premise for each of its left concepts.
+    pub(crate) fn hyper(
+        &mut self,
+        v: u8,
+        x: u16,
+        premises: &[u16],
+        claim: &Short<Literal, HEAD_LIMIT>,
+        scratch: &mut [Literal],
+    ) -> Result<Answer, Refusal>
+        ensures answer { λ r. ⌜ r ≡ reply (contents (now (self .entry))) (hyper v x (now (premises .entry)) (held (now (claim .entry))) (length (now (scratch .entry)))) ⌝ }
+        ensures change { λ _. ⌜ contents (now (self .exit)) ≡ after (contents (now (self .entry))) (hyper v x (now (premises .entry)) (held (now (claim .entry))) (length (now (scratch .entry)))) ⌝ }
+        ensures cleared { λ _. ⌜ now (scratch .exit) ≡ replicate (length (now (scratch .entry))) (Concept 0) ⌝ }
+    {
+        let checked = self.check_hyper(v, x, premises, claim.as_slice(), scratch);
+        scratch.fill(Literal::Concept(0));
+        self.settle(checked, v, claim)
     }
 }

@@ -3,6 +3,8 @@
 mod answers;
 mod checks;
 mod clauses;
+mod core;
+mod entry;
 mod hyper;
 mod rows;
 mod sound;
