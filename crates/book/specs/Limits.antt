@@ -17,3 +17,7 @@ head-limit = 12
 -- the literals of scratch that a step is to be lent
 abbrev pub scratch-needed : ℕ
 scratch-needed = 111
+
+-- the most sides of a pred step
+abbrev pub side-limit : ℕ
+side-limit = 8

@@ -6,6 +6,7 @@ mod clauses;
 mod core;
 mod entry;
 mod hyper;
+mod pred;
 mod rows;
 mod sound;
 mod state;
