@@ -23,6 +23,9 @@ use terms::lists::is_within;
 use terms::literals::LiteralOrder;
 use terms::order::ConceptOrder;
 
+// The most concepts that a pred step names: its own, and one for each side.
+const NAME_LIMIT: usize = 9;
+
 impl Book {
     fn reaches(&self, e: Role, s: Role) -> bool
         ensures { λ r. ⌜ r ≡ reaches-test (contents (now (self .entry))) (e .code) (s .code) ⌝ }
@@ -40,12 +43,7 @@ impl Book {
     ) -> Result<Short<Literal, HEAD_LIMIT>, Refusal>
         ensures { λ r. ⌜ seen held r ≡ side-head (contents (now (self .entry))) i v (e .code) side ⌝ }
     {
-        let head = self.premise(
-            i,
-            v,
-            side.clause,
-            Literal::Forall(side.role, side.concept),
-        )?;
+        let head = self.premise(i, v, side.clause, Literal::Forall(side.role, side.concept))?;
         if self.reaches(e, side.role) {
             Ok(head)
         } else {
@@ -67,5 +65,76 @@ impl Book {
             }
             _ => Err(Refusal::LiteralUnfit { index: i }),
         }
+    }
+
+    // Puts what each side has besides its own literal into the row of the first `start` literals of `out`.
+    fn gather_sides(
+        &self,
+        v: u8,
+        e: Role,
+        sides: &[Side],
+        out: &mut [Literal],
+        start: usize,
+    ) -> Result<usize, Refusal>
+        requires { ⌜ start ≤ length (now out) ⌝ }
+        ensures { λ r. ⌜ ((row : List Literal) → Capped (now (out .entry)) start row → Row-in (now (out .exit)) r (walked (side-test (contents (now (self .entry))) v (e .code)) side-brings 0 (now (sides .entry)) row)) ⌝ }
+    {
+        let mut n = start;
+        for i in 0..sides.len() {
+            let side = sides[i];
+            let head = self.side_head(i + 1, v, e, side)?;
+            n = put_but(
+                out,
+                n,
+                head.as_slice(),
+                Literal::Forall(side.role, side.concept),
+            );
+        }
+        Ok(n)
+    }
+
+    // Puts the concept that each literal of the far head brings back into the row of the first `start` literals of `out`.
+    fn gather_back(
+        &self,
+        e: Role,
+        far: &[Literal],
+        out: &mut [Literal],
+        start: usize,
+    ) -> Result<usize, Refusal>
+        requires { ⌜ start ≤ length (now out) ⌝ }
+        ensures { λ r. ⌜ ((row : List Literal) → Capped (now (out .entry)) start row → Row-in (now (out .exit)) r (walked (back-test (contents (now (self .entry))) (e .code)) back-brings 0 (now (far .entry)) row)) ⌝ }
+    {
+        let mut n = start;
+        for i in 0..far.len() {
+            let concept = self.brought_back(e, i, far[i])?;
+            n = put_capped(out, n, Literal::Concept(concept));
+        }
+        Ok(n)
+    }
+}
+
+// The concepts that the core of the far context is to be.
+fn names_of_core(a: u8, sides: &[Side]) -> Short<u8, NAME_LIMIT>
+    requires { ⌜ length (now sides) ≤ side-limit ⌝ }
+    ensures { λ r. ⌜ held r ≡ core-named a (now (sides .entry)) ⌝ }
+{
+    let mut names = Short::new(0);
+    let _ = names.push(a);
+    for side in sides {
+        let _ = names.push(side.concept);
+    }
+    names
+}
+
+// The core of u is the set of these concepts.
+fn is_core(u: u8, concepts: &[u8], names: &[u8]) -> Result<(), Refusal>
+    ensures { λ r. ⌜ r ≡ same-core u (now (concepts .entry)) (now (names .entry)) ⌝ }
+{
+    if is_within(concepts, names) && is_within(names, concepts) {
+        Ok(())
+    } else {
+        Err(Refusal::CoreDiffers {
+            context: u as usize,
+        })
     }
 }
