@@ -50,16 +50,26 @@ impl Book {
         }
     }
 
+    // The core of the context v, or this refusal where v was not opened.
+    pub(crate) fn core_or(&self, v: u8, missing: Refusal) -> Result<Short<u8, CORE_LIMIT>, Refusal>
+        ensures { λ r. ⌜ seen held r ≡ required missing (nth (contents (now (self .entry)) .contexts) v) ⌝ }
+    {
+        match self.contexts.get(v as usize) {
+            Some(concepts) => Ok(concepts),
+            None => Err(missing),
+        }
+    }
+
     // The core of the context v.
     pub(crate) fn core_of(&self, v: u8) -> Result<Short<u8, CORE_LIMIT>, Refusal>
         ensures { λ r. ⌜ seen held r ≡ core-of (contents (now (self .entry))) v ⌝ }
     {
-        match self.contexts.get(v as usize) {
-            Some(core) => Ok(core),
-            None => Err(Refusal::ContextNotOpened {
+        self.core_or(
+            v,
+            Refusal::ContextNotOpened {
                 context: v as usize,
-            }),
-        }
+            },
+        )
     }
 
     // Axiom number x, which is to be a concept axiom.
