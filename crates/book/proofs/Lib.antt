@@ -1,3 +1,4 @@
+pub mod Asked
 pub mod Caps
 pub mod Claims
 pub mod Gathers

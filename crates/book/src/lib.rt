@@ -1,6 +1,7 @@
 //! The book: the rules by which clauses are entered, and what they mean. Nothing of it is public yet: the book comes with the whole law that
 //! its call keeps.
 mod answers;
+mod asking;
 mod checks;
 mod clauses;
 mod core;
