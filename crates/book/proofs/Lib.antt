@@ -12,6 +12,7 @@ pub mod Placed
 pub mod Places
 pub mod PredTie
 pub mod Replied
+pub mod Rooms
 pub mod Rules
 pub mod Shown
 pub mod Standing

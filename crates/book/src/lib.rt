@@ -2,6 +2,7 @@
 //! its call keeps.
 mod answers;
 mod asking;
+mod charting;
 mod checks;
 mod clauses;
 mod core;
