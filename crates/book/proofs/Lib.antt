@@ -3,6 +3,7 @@ pub mod Caps
 pub mod Claims
 pub mod Gathers
 pub mod HyperTie
+pub mod Included
 pub mod Lawful
 pub mod Listed
 pub mod Pairs

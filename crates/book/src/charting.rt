@@ -2,17 +2,56 @@
 ghost use mathlib.Core.Path.{_≡_};
 ghost use Rattle.terms.specs.Shorts.{held};
 ghost use Rattle.book.specs.Contents.{contents};
-ghost use Rattle.book.specs.Events.{close, open-context};
+ghost use Rattle.book.specs.Events.{close, enter-axiom, enter-inclusion, open-context};
 ghost use Rattle.book.specs.Replies.{after, reply};
 use crate::answers::Answer;
 use crate::clauses::Phase;
+use crate::state::AXIOM_LIMIT;
 use crate::state::Book;
 use crate::state::CONTEXT_LIMIT;
 use crate::state::CORE_LIMIT;
+use models::Axiom;
+use models::ConceptAxiom;
 use terms::Refusal;
+use terms::Role;
 use terms::Short;
 
 impl Book {
+    pub(crate) fn enter_axiom(&mut self, implied: ConceptAxiom) -> Result<Answer, Refusal>
+        ensures answer { λ r. ⌜ r ≡ reply (contents (now (self .entry))) (enter-axiom (held (implied .left)) (held (implied .right))) ⌝ }
+        ensures change { λ _. ⌜ contents (now (self .exit)) ≡ after (contents (now (self .entry))) (enter-axiom (held (implied .left)) (held (implied .right))) ⌝ }
+    {
+        match self.phase {
+            Phase::Closed => Err(Refusal::BookClosed),
+            Phase::Open => {
+                let number = self.axioms.len();
+                if self.axioms.push(Axiom::Implies(implied)) {
+                    Ok(Answer::Entered(number as u16))
+                } else {
+                    Err(Refusal::NoPlaceFree { limit: AXIOM_LIMIT })
+                }
+            }
+        }
+    }
+
+    pub(crate) fn enter_inclusion(&mut self, e: Role, s: Role) -> Result<Answer, Refusal>
+        ensures answer { λ r. ⌜ r ≡ reply (contents (now (self .entry))) (enter-inclusion e s) ⌝ }
+        ensures change { λ _. ⌜ contents (now (self .exit)) ≡ after (contents (now (self .entry))) (enter-inclusion e s) ⌝ }
+    {
+        match self.phase {
+            Phase::Closed => Err(Refusal::BookClosed),
+            Phase::Open => {
+                let number = self.axioms.len();
+                if self.axioms.push(Axiom::Under(e, s)) {
+                    self.reach.include(e, s);
+                    Ok(Answer::Entered(number as u16))
+                } else {
+                    Err(Refusal::NoPlaceFree { limit: AXIOM_LIMIT })
+                }
+            }
+        }
+    }
+
     pub(crate) fn close(&mut self) -> Result<Answer, Refusal>
         ensures answer { λ r. ⌜ r ≡ reply (contents (now (self .entry))) close ⌝ }
         ensures change { λ _. ⌜ contents (now (self .exit)) ≡ after (contents (now (self .entry))) close ⌝ }
