@@ -1,16 +1,19 @@
-// The question whether the clauses entered show a subsumption.
+// The questions whether the clauses entered show a subsumption, and whether a sample refutes it.
 ghost use mathlib.Core.Path.{_≡_};
 ghost use mathlib.Core.List.{map};
 ghost use Rattle.terms.specs.Lists.{contained, member};
 ghost use Rattle.terms.specs.Literals.{literal-precedes};
 ghost use Rattle.terms.specs.declared.literals.Literal.the-variants.{Concept};
 ghost use Rattle.book.specs.Contents.{clause-of, contents};
-ghost use Rattle.book.specs.Events.{ask};
+ghost use Rattle.book.specs.Events.{ask, refute};
 ghost use Rattle.book.specs.Replies.{covering, lowest-clause, reply};
 use crate::answers::Answer;
 use crate::clauses::Clause;
 use crate::clauses::Phase;
 use crate::state::Book;
+use models::Sample;
+use models::judge::judge;
+use models::judge::lowest_contradiction;
 use terms::Literal;
 use terms::Refusal;
 use terms::lists::has;
@@ -75,6 +78,26 @@ impl Book {
                 Some(n) => Ok(Answer::Shown(n)),
                 None => Ok(Answer::Unshown),
             },
+        }
+    }
+
+    pub(crate) fn refute<S: Sample>(
+        &self,
+        k: &[u8],
+        m: &[u8],
+        sample: &S,
+    ) -> Result<Answer, Refusal>
+        ensures { λ r. ⌜ r ≡ reply (contents (now (self .entry))) (refute (now (k .entry)) (now (m .entry)) (meaning (now (sample .entry)))) ⌝ }
+    {
+        match self.phase {
+            Phase::Open => Err(Refusal::BookOpen),
+            Phase::Closed => {
+                judge(self.axioms.as_slice(), sample)?;
+                match lowest_contradiction(k, m, sample) {
+                    Some(x) => Ok(Answer::Refuted(x)),
+                    None => Err(Refusal::NoneContradicts),
+                }
+            }
         }
     }
 }
