@@ -2,7 +2,6 @@
 ghost use mathlib.Core.Path.{_≡_};
 ghost use Rattle.std.specs.declared.option.Option.the-variants.{None};
 ghost use Rattle.terms.specs.Shorts.{held};
-ghost use Rattle.models.specs.Charts.{sentence-of};
 ghost use Rattle.book.specs.Checks.{claimed, core-of, counted, premise-head, ready, required, sides-of};
 ghost use Rattle.book.specs.Contents.{clause-of, contents};
 ghost use Rattle.book.specs.Views.{both-sides, seen};
@@ -19,7 +18,6 @@ use models::Axiom;
 use models::ConceptAxiom;
 use terms::Literal;
 use terms::Refusal;
-use terms::Role;
 use terms::Short;
 use terms::lists::has;
 use terms::literals::LiteralOrder;

@@ -27,7 +27,7 @@ fn put<T: Ordered>(out: &mut [T], n: usize, x: T) -> usize
 }
 
 // Puts x into the row, or leaves the row where it fills `out`.
-pub fn put_capped<T: Ordered>(out: &mut [T], n: usize, x: T) -> usize
+pub(crate) fn put_capped<T: Ordered>(out: &mut [T], n: usize, x: T) -> usize
     requires { ⌜ n ≤ length (now out) ⌝ }
     ensures fits { λ r. ⌜ r ≤ length (now (out .exit)) ⌝ }
     ensures row { λ r. ⌜ ((row : List T) → Capped (now (out .entry)) n row → Capped (now (out .exit)) r (placed precedes x row)) ⌝ }
@@ -36,7 +36,7 @@ pub fn put_capped<T: Ordered>(out: &mut [T], n: usize, x: T) -> usize
 }
 
 // Puts every item of xs but `gone` into the row, as far as `out` has room.
-pub fn put_but<T: Ordered>(out: &mut [T], n: usize, xs: &[T], gone: T) -> usize
+pub(crate) fn put_but<T: Ordered>(out: &mut [T], n: usize, xs: &[T], gone: T) -> usize
     requires { ⌜ n ≤ length (now out) ⌝ }
     ensures fits { λ r. ⌜ r ≤ length (now (out .exit)) ⌝ }
     ensures row { λ r. ⌜ ((row : List T) → Capped (now (out .entry)) n row → Capped (now (out .exit)) r (placed-all precedes (removal precedes gone (now (xs .entry))) row)) ⌝ }
@@ -51,7 +51,7 @@ pub fn put_but<T: Ordered>(out: &mut [T], n: usize, xs: &[T], gone: T) -> usize
 }
 
 // Puts every item of xs into the row, as far as `out` has room.
-pub fn put_all<T: Ordered>(out: &mut [T], n: usize, xs: &[T]) -> usize
+pub(crate) fn put_all<T: Ordered>(out: &mut [T], n: usize, xs: &[T]) -> usize
     requires { ⌜ n ≤ length (now out) ⌝ }
     ensures fits { λ r. ⌜ r ≤ length (now (out .exit)) ⌝ }
     ensures row { λ r. ⌜ ((row : List T) → Capped (now (out .entry)) n row → Capped (now (out .exit)) r (placed-all precedes (now (xs .entry)) row)) ⌝ }
@@ -64,7 +64,7 @@ pub fn put_all<T: Ordered>(out: &mut [T], n: usize, xs: &[T]) -> usize
 }
 
 // Where two lists first differ, or the length of the shorter, or nothing where they are equal.
-pub fn first_difference<T: Ordered>(xs: &[T], ys: &[T]) -> Option<usize>
+pub(crate) fn first_difference<T: Ordered>(xs: &[T], ys: &[T]) -> Option<usize>
     ensures { λ r. ⌜ r ≡ first-apart precedes 0 (now (xs .entry)) (now (ys .entry)) ⌝ }
 {
     for i in 0..xs.len() {
