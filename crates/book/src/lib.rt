@@ -1,5 +1,7 @@
 //! The book: it takes axioms, replays derivations from them, and answers what they show and what a sample refutes. Its one call keeps the law of
 //! every past, which crates/calculus/specs/Law.antt states.
+#![tactic(auto)]
+
 mod asking;
 mod charting;
 mod checks;

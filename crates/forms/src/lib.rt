@@ -1,4 +1,6 @@
 //! Forms: what a book can be asked, made of numbers that are checked as a line would be read.
+#![tactic(auto)]
+
 pub mod formed;
 pub mod kinds;
 pub mod limits;

@@ -1,5 +1,7 @@
 //! Judges a full chart on the largest table, where every axiom holds only by its last literal. With an argument it also prints how long
 //! that took, as the least of as many runs as the argument says.
+#![tactic(auto)]
+
 ghost use Rattle.std.specs.Prelude.{◌≡◌, ℕ, ◌-◌, ◌^◌, ◌<◌, true, map, length, is_ok, Some, None, Ok, string_bytes, MatchOption, MatchResult, slice_index};
 ghost use Rattle.std.specs.Result.{OkIff};
 ghost use Rattle.std.specs.Str.Parse.{IsNumeral, without_leading_plus, digits_value};

@@ -1,4 +1,6 @@
 //! What axioms mean, samples of any kind, and the judge that says whether a sample satisfies every axiom.
+#![tactic(auto)]
+
 pub mod axioms;
 pub mod charts;
 pub mod entries;

@@ -9,3 +9,4 @@ pub mod Tables
 pub mod Writing
 pub mod Positions
 pub mod Codes
+pub mod Reported

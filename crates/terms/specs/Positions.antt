@@ -1,14 +1,21 @@
 -- The order of literals: that it is one, and that it is the order of their positions. Assumes nothing.
-use Rattle.std.specs.Prelude.{◌≡◌, ℕ, ◌+◌, ◌*◌, ◌<◌, Bool, true, false, cond, nat_lt, refl}
-use Rattle.std.proofs.Common.{sym, ap, ◌∙◌, arith}
-use Rattle.std.proofs.lemmas.Bool.{ltb-true, ltb-false, lt-ltb, le-ltb, true≢false}
+use Rattle.std.specs.Prelude.{◌≡◌, ℕ, ◌+◌, ◌*◌, ◌<◌, Bool, true, false, cond, nat_lt, Decides, refl}
+use Rattle.std.proofs.Common.{sym, ap, ◌∙◌, subst, arith}
+use Rattle.std.proofs.lemmas.Bool.{ltb-true, ltb-false, lt-ltb, le-ltb, true≢false, not-true, not_from_false, and_parts, and_from}
 use Rattle.std.proofs.lemmas.Bool.Decides.{nat_tests}
-use Rattle.terms.specs.Lists.{TotalOrder}
+use Rattle.terms.specs.Lists.{TotalOrder, alike}
 use Rattle.terms.specs.Literals.{InRange, concept_of, literal_precedes, pair_precedes, position}
 use Rattle.terms.specs.declared.roles.Role.{Role}
 use Rattle.terms.specs.declared.literals.Literal.{Literal}
 use Rattle.terms.specs.declared.literals.Literal.TheVariants.{Concept, Exists, Forall}
 use Rattle.terms.specs.Codes.{role_same}
+
+-- ---- any order
+
+pub alike_Decides : {X : Type 0} (lt : X → X → Bool) → TotalOrder lt → (x y : X) → Decides (alike lt x y) (x ≡ y)
+alike_Decides lt o x y = (
+    λ h. o.total x y (not-true _ (and_parts _ _ h).0) (not-true _ (and_parts _ _ h).1),
+    λ e. let n = not_from_false _ (o.irreflexive x) in subst (λ w. alike lt x w ≡ true) e (and_from _ _ n n))
 
 -- ---- pairs of numbers, by the first and then by the second
 
@@ -82,6 +89,9 @@ total (Forall E A) (Forall F B) p q =
 
 pub literal_order : TotalOrder literal_precedes
 literal_order = record { irreflexive = irreflexive; transitive = transitive; total = total }
+
+pub literal_alike_Decides : (x y : Literal) → Decides (alike literal_precedes x y) (x ≡ y)
+literal_alike_Decides = alike_Decides literal_precedes literal_order
 
 -- ---- positions
 

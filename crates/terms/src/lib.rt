@@ -1,5 +1,7 @@
 //! The lowest layer of Hevtsuro: ordered items, rising lists over lent memory, bounded lists, role codes and what they
 //! reach, literals, and the refusals that every layer answers with.
+#![tactic(auto)]
+
 pub mod bounded;
 pub mod lists;
 pub mod literals;

@@ -9,7 +9,7 @@ use crate::refusals::Refusal;
 
 /// Whether each item stands before the next.
 pub fn is_rising<T: Ordered>(xs: &[T]) -> bool
-    ensures { result ≡ rising precedes xs.now }
+    ensures { result ≡ rising T.precedes xs.now }
 {
     for i in 1..xs.len() {
         if !xs[i - 1].before(&xs[i]) {
@@ -21,7 +21,7 @@ pub fn is_rising<T: Ordered>(xs: &[T]) -> bool
 
 /// Whether x is one of the items.
 pub fn has<T: Ordered>(xs: &[T], x: &T) -> bool
-    ensures value { result ≡ member precedes x.now xs.now }
+    ensures value { result ≡ member T.precedes x.now xs.now }
     ensures means { Decides result (x.now ∈ xs.now) }
 {
     for y in xs {
@@ -34,7 +34,7 @@ pub fn has<T: Ordered>(xs: &[T], x: &T) -> bool
 
 /// Whether every item of xs is one of ys. Neither list need rise.
 pub fn is_within<T: Ordered>(xs: &[T], ys: &[T]) -> bool
-    ensures value { result ≡ contained precedes xs.now ys.now }
+    ensures value { result ≡ contained T.precedes xs.now ys.now }
     ensures means { Decides result (Subset xs.now ys.now) }
 {
     for x in xs {
@@ -47,9 +47,9 @@ pub fn is_within<T: Ordered>(xs: &[T], ys: &[T]) -> bool
 
 /// Whether the two lists are equal; of rising lists, whether they have the same items.
 pub fn is_equal<T: Ordered>(xs: &[T], ys: &[T]) -> bool
-    ensures value { result ≡ equal precedes xs.now ys.now }
+    ensures value { result ≡ equal T.precedes xs.now ys.now }
     ensures means { Decides result (xs.now ≡ ys.now) }
-    ensures sets { rising precedes xs.now ≡ true → rising precedes ys.now ≡ true → Decides result (SameItems xs.now ys.now) }
+    ensures sets { rising T.precedes xs.now ≡ true → rising T.precedes ys.now ≡ true → Decides result (SameItems xs.now ys.now) }
 {
     if xs.len() != ys.len() {
         return false;
@@ -85,7 +85,7 @@ struct JoinStep<T> {
 
 // The next item of the join of two lists, of which `left` and `right` items are taken up.
 fn next_of_join<T: Ordered>(xs: &[T], ys: &[T], left: usize, right: usize) -> Option<JoinStep<T>>
-    ensures { MatchOption result (union precedes (drop left xs.now) (drop right ys.now) ≡ []) (λ s. union precedes (drop left xs.now) (drop right ys.now) ≡ s.item ∷ union precedes (drop s.left xs.now) (drop s.right ys.now)) }
+    ensures { MatchOption result (union T.precedes (drop left xs.now) (drop right ys.now) ≡ []) (λ s. union T.precedes (drop left xs.now) (drop right ys.now) ≡ s.item ∷ union T.precedes (drop s.left xs.now) (drop s.right ys.now)) }
 {
     if left < xs.len() {
         let x = xs[left];
@@ -130,7 +130,7 @@ fn next_of_join<T: Ordered>(xs: &[T], ys: &[T], left: usize, right: usize) -> Op
 
 // How many items the join of two lists has.
 fn join_len<T: Ordered>(xs: &[T], ys: &[T]) -> u128
-    ensures { result ≡ length (union precedes xs.now ys.now) }
+    ensures { result ≡ length (union T.precedes xs.now ys.now) }
 {
     let mut left = 0;
     let mut right = 0;
@@ -145,9 +145,9 @@ fn join_len<T: Ordered>(xs: &[T], ys: &[T]) -> u128
 
 // Writes the join of two lists to the front of `out`, where it fits.
 fn write_join<T: Ordered>(xs: &[T], ys: &[T], out: &mut [T]) -> usize
-    requires { length (union precedes xs.now ys.now) ≤ length out.old }
-    ensures count { result ≡ length (union precedes xs.now ys.now) }
-    ensures memory { out.new ≡ union precedes xs.now ys.now ++ drop (length (union precedes xs.now ys.now)) out.old }
+    requires { length (union T.precedes xs.now ys.now) ≤ length out.old }
+    ensures count { result ≡ length (union T.precedes xs.now ys.now) }
+    ensures memory { out.new ≡ union T.precedes xs.now ys.now ++ drop (length (union T.precedes xs.now ys.now)) out.old }
 {
     let mut left = 0;
     let mut right = 0;
@@ -164,10 +164,10 @@ fn write_join<T: Ordered>(xs: &[T], ys: &[T], out: &mut [T]) -> usize
 /// Writes the join of two lists to the front of `out` and answers how many items it has; where it does not fit, `out` stays
 /// as it was. The join of rising lists rises.
 pub fn join<T: Ordered>(xs: &[T], ys: &[T], out: &mut [T]) -> Result<usize, Refusal>
-    ensures answer { result ≡ room_for (union precedes xs.now ys.now) (length out.old) }
-    ensures memory { out.new ≡ written (union precedes xs.now ys.now) out.old }
-    ensures means { IsUnion xs.now ys.now (union precedes xs.now ys.now) }
-    ensures rises { rising precedes xs.now ≡ true → rising precedes ys.now ≡ true → rising precedes (union precedes xs.now ys.now) ≡ true }
+    ensures answer { result ≡ room_for (union T.precedes xs.now ys.now) (length out.old) }
+    ensures memory { out.new ≡ written (union T.precedes xs.now ys.now) out.old }
+    ensures means { IsUnion xs.now ys.now (union T.precedes xs.now ys.now) }
+    ensures rises { rising T.precedes xs.now ≡ true → rising T.precedes ys.now ≡ true → rising T.precedes (union T.precedes xs.now ys.now) ≡ true }
 {
     let needed = join_len(xs, ys);
     if needed <= out.len() as u128 {
@@ -179,7 +179,7 @@ pub fn join<T: Ordered>(xs: &[T], ys: &[T], out: &mut [T]) -> Result<usize, Refu
 
 // How many items are left of a list without x.
 fn without_len<T: Ordered>(xs: &[T], x: &T) -> usize
-    ensures { result ≡ length (removal precedes x.now xs.now) }
+    ensures { result ≡ length (removal T.precedes x.now xs.now) }
 {
     let mut count = 0;
     for y in xs {
@@ -192,9 +192,9 @@ fn without_len<T: Ordered>(xs: &[T], x: &T) -> usize
 
 // Writes a list without x to the front of `out`, where it fits.
 fn write_without<T: Ordered>(xs: &[T], x: &T, out: &mut [T]) -> usize
-    requires { length (removal precedes x.now xs.now) ≤ length out.old }
-    ensures count { result ≡ length (removal precedes x.now xs.now) }
-    ensures memory { out.new ≡ removal precedes x.now xs.now ++ drop (length (removal precedes x.now xs.now)) out.old }
+    requires { length (removal T.precedes x.now xs.now) ≤ length out.old }
+    ensures count { result ≡ length (removal T.precedes x.now xs.now) }
+    ensures memory { out.new ≡ removal T.precedes x.now xs.now ++ drop (length (removal T.precedes x.now xs.now)) out.old }
 {
     let mut count = 0;
     for y in xs {
@@ -209,10 +209,10 @@ fn write_without<T: Ordered>(xs: &[T], x: &T, out: &mut [T]) -> usize
 /// Writes a list without x to the front of `out` and answers how many items are left; where they do not fit, `out` stays as
 /// it was. What is left of a rising list rises.
 pub fn without<T: Ordered>(xs: &[T], x: &T, out: &mut [T]) -> Result<usize, Refusal>
-    ensures answer { result ≡ room_for (removal precedes x.now xs.now) (length out.old) }
-    ensures memory { out.new ≡ written (removal precedes x.now xs.now) out.old }
-    ensures means { IsRemoval x.now xs.now (removal precedes x.now xs.now) }
-    ensures rises { rising precedes xs.now ≡ true → rising precedes (removal precedes x.now xs.now) ≡ true }
+    ensures answer { result ≡ room_for (removal T.precedes x.now xs.now) (length out.old) }
+    ensures memory { out.new ≡ written (removal T.precedes x.now xs.now) out.old }
+    ensures means { IsRemoval x.now xs.now (removal T.precedes x.now xs.now) }
+    ensures rises { rising T.precedes xs.now ≡ true → rising T.precedes (removal T.precedes x.now xs.now) ≡ true }
 {
     let needed = without_len(xs, x);
     if needed <= out.len() {

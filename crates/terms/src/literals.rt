@@ -3,9 +3,8 @@ ghost use Rattle.std.specs.Prelude.{◌≡◌, ◌<◌, Decides, nat_lt};
 ghost use Rattle.terms.specs.Limits.{literal_positions};
 ghost use Rattle.terms.specs.Literals.{InRange, literal_precedes, position};
 ghost use Rattle.terms.specs.declared.literals.Literal.{Literal};
-ghost use Rattle.terms.specs.Positions.{literal_order};
-ghost use Rattle.std.specs.Cmp.Rules.{comparing};
-ghost use Rattle.std.proofs.Common.{rules};
+ghost use Rattle.terms.specs.Lists.{alike};
+ghost use Rattle.terms.specs.Positions.{literal_order, literal_alike_Decides};
 ghost use Rattle.std.specs.Cmp as Keys;
 
 use crate::order::Ordered;
@@ -58,17 +57,20 @@ impl Ordered for Literal {
 }
 
 impl PartialEq for Literal {
-    ghost equals = { λ x y t. Decides t (x ≡ y) };
+    ghost eq = { alike literal_precedes };
 
-    ghost laws = { Keys.partial_equiv_from_equiv (Prim.search (comparing, rules)) };
+    ghost laws = { Keys.partial_equiv_from_equiv (Keys.decided (alike literal_precedes) literal_alike_Decides) };
 
-    fn eq(&self, other: &Literal) -> bool {
+    fn eq(&self, other: &Literal) -> bool
+        ensures value { result ≡ alike literal_precedes self.now other.now }
+        ensures decides { Decides result (self.now ≡ other.now) }
+    {
         self.same(other)
     }
 }
 
 impl Eq for Literal {
-    ghost laws = { Prim.search (comparing, rules) };
+    ghost laws = { Keys.decided (alike literal_precedes) literal_alike_Decides };
 }
 
 impl fmt::Display for Literal {

@@ -1,8 +1,7 @@
 // Why a call was refused. Each cause has a number and up to two values, A and B, which docs/REFUSALS.md lists.
 ghost use Rattle.std.specs.Prelude.{◌≡◌, Decides};
 ghost use Rattle.terms.specs.Refusals.{first_value, number, second_value};
-ghost use Rattle.std.specs.Cmp.Rules.{comparing};
-ghost use Rattle.std.proofs.Common.{rules};
+ghost use Rattle.terms.specs.Reported.{reported_alike, reported_alike_Decides};
 ghost use Rattle.std.specs.Cmp as Keys;
 
 use std::error::Error;
@@ -137,11 +136,14 @@ impl Refusal {
 
 // A refusal is known by its number and values.
 impl PartialEq for Refusal {
-    ghost equals = { λ x y t. Decides t (x ≡ y) };
+    ghost eq = { reported_alike };
 
-    ghost laws = { Keys.partial_equiv_from_equiv (Prim.search (comparing, rules)) };
+    ghost laws = { Keys.partial_equiv_from_equiv (Keys.decided reported_alike reported_alike_Decides) };
 
-    fn eq(&self, other: &Refusal) -> bool {
+    fn eq(&self, other: &Refusal) -> bool
+        ensures value { result ≡ reported_alike self.now other.now }
+        ensures decides { Decides result (self.now ≡ other.now) }
+    {
         let (first, second) = self.values();
         let (other_first, other_second) = other.values();
         self.number() == other.number() && first == other_first && second == other_second
@@ -149,7 +151,7 @@ impl PartialEq for Refusal {
 }
 
 impl Eq for Refusal {
-    ghost laws = { Prim.search (comparing, rules) };
+    ghost laws = { Keys.decided reported_alike reported_alike_Decides };
 }
 
 impl fmt::Debug for Refusal {

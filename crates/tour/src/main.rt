@@ -1,5 +1,7 @@
 //! A tour of Hevtsuro's library: what role inclusions make each role reach, the head that two premises resolve to, a sample that is
 //! judged against a chart, and a derivation that a book replays.
+#![tactic(auto)]
+
 ghost use Rattle.std.specs.Prelude.{◌≡◌, ◌≤◌, false, List, is_ok, MatchResult};
 ghost use Rattle.terms.specs.Limits.{role_codes};
 ghost use Rattle.terms.specs.Reaching.{Inclusion};

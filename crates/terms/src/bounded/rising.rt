@@ -13,7 +13,7 @@ pub fn rising_list<T: Ordered, const N: usize>(
     items: &[T],
     filler: T,
 ) -> Result<Short<T, N>, Refusal>
-    ensures { MatchResult result (λ s. (held s ≡ items.now) × (list_refusal precedes N items.now ≡ None)) (λ e. list_refusal precedes N items.now ≡ Some e) }
+    ensures { MatchResult result (λ s. (held s ≡ items.now) × (list_refusal T.precedes N items.now ≡ None)) (λ e. list_refusal T.precedes N items.now ≡ Some e) }
 {
     if !is_rising(&items[0..items.len().min(N)]) {
         return Err(Refusal::NotRising { at: 0 });

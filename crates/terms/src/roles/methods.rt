@@ -1,9 +1,8 @@
-ghost use Rattle.std.specs.Prelude.{◌≡◌, ◌*◌, ◌<◌, not, Decides, nat_eq};
+ghost use Rattle.std.specs.Prelude.{◌≡◌, ◌*◌, ◌<◌, ◌==◌, not, Decides, nat_eq};
 ghost use Rattle.std.specs.Ordering.{on};
 ghost use Rattle.terms.specs.Limits.{role_codes, role_names};
 ghost use Rattle.terms.specs.Roles.{RoleOrRefusal, backwards, mirror, name_of};
-ghost use Rattle.std.specs.Cmp.Rules.{comparing};
-ghost use Rattle.std.proofs.Common.{rules, arith};
+ghost use Rattle.terms.specs.Codes.{role_Decides};
 ghost use Rattle.std.specs.Cmp as Keys;
 
 use super::{ROLE_CODES, ROLE_NAMES, Role};
@@ -63,13 +62,16 @@ impl Role {
 impl PartialEq for Role {
     ghost eq = { on (λ v. v.code) nat_eq };
 
-    ghost laws = { Keys.partial_equiv_from_equiv (first_of (Prim.search (comparing, rules), Prim.grind (arith, Self.row.coded.inj))) };
+    ghost laws = { Keys.partial_equiv_from_equiv (Keys.decided (on (λ v. v.code) nat_eq) role_Decides) };
 
-    fn eq(&self, other: &Role) -> bool {
+    fn eq(&self, other: &Role) -> bool
+        ensures value { result ≡ self.now.code == other.now.code }
+        ensures decides { Decides result (self.now ≡ other.now) }
+    {
         self.code == other.code
     }
 }
 
 impl Eq for Role {
-    ghost laws = { first_of (Prim.search (comparing, rules), Prim.grind (arith, Self.row.coded.inj)) };
+    ghost laws = { Keys.decided (on (λ v. v.code) nat_eq) role_Decides };
 }

@@ -1,5 +1,5 @@
-use Rattle.terms.specs.Codes.{role_decides}
+use Rattle.terms.specs.Codes.{role_Decides}
 use Rattle.terms.proofs.roles.methods.RolePartialEq.eq.Goals as goal
 
 pub returns : goal.returns
-returns c = role_decides c.args.self.now c.args.other.now
+returns c = role_Decides c.args.self.now c.args.other.now
