@@ -14,8 +14,9 @@ use Rattle.terms.specs.Codes.{role_same}
 
 pub alike_Decides : {X : Type 0} (lt : X → X → Bool) → TotalOrder lt → (x y : X) → Decides (alike lt x y) (x ≡ y)
 alike_Decides lt o x y = (
-    λ h. o.total x y (not-true _ (and_parts _ _ h).0) (not-true _ (and_parts _ _ h).1),
-    λ e. let n = not_from_false _ (o.irreflexive x) in subst (λ w. alike lt x w ≡ true) e (and_from _ _ n n))
+  λ h. o.total x y (not-true _ (and_parts _ _ h).0) (not-true _ (and_parts _ _ h).1),
+  λ e. let n = not_from_false _ (o.irreflexive x) in subst (λ w. alike lt x w ≡ true) e (and_from _ _ n n),
+)
 
 -- ---- pairs of numbers, by the first and then by the second
 

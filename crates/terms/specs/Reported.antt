@@ -68,11 +68,12 @@ same_report x y e = sym (refusal_reported-reported x) ∙ ap refusal_reported e 
 
 pub reported_alike_Decides : (x y : Refusal) → Decides (reported_alike x y) (x ≡ y)
 reported_alike_Decides x y = (
-    λ h. let p = and_parts _ _ h in
-         let q = and_parts _ _ p.0 in
-         let a = eqb-true _ _ q.0 in
-         let b = eqb-true _ _ q.1 in
-         let c = eqb-true _ _ p.1 in
-         same_report x y (λ i. (a i, b i, c i)),
-    λ e. let same = λ (f : Refusal → ℕ). eq-eqb (f x) (f y) (ap f e) in
-         and_from _ _ (and_from _ _ (same number) (same first_value)) (same second_value))
+  λ h. let p = and_parts _ _ h in
+      let q = and_parts _ _ p.0 in
+      let a = eqb-true _ _ q.0 in
+      let b = eqb-true _ _ q.1 in
+      let c = eqb-true _ _ p.1 in
+      same_report x y (λ i. (a i, b i, c i)),
+  λ e. let same = λ (f : Refusal → ℕ). eq-eqb (f x) (f y) (ap f e) in
+      and_from _ _ (and_from _ _ (same number) (same first_value)) (same second_value),
+)

@@ -10,8 +10,8 @@ returns-then-needed-out g c =
     let o = g.met.T.Ordered.order in
     let row = union lt c.args.xs.now c.args.ys.now in
     record {
-      answer = answer_fits row _ _ c.write-join.ensures.count (omega arith);
-      memory = memory_fits row _ _ c.write-join.ensures.memory (omega arith);
+      answer = answer_fits row _ _ c.write_join.ensures.count (omega arith);
+      memory = memory_fits row _ _ c.write_join.ensures.memory (omega arith);
       means = union_means lt o _ _;
       rises = rising_union lt o c.args.xs.now c.args.ys.now;
     }
@@ -22,7 +22,7 @@ returns-else-needed-out g c =
     let o = g.met.T.Ordered.order in
     let row = union lt c.args.xs.now c.args.ys.now in
     record {
-      answer = answer_not row _ _ _ c.too-short.ensures c.join-len-needed.ensures (omega arith);
+      answer = answer_not row _ _ _ c.too_short.ensures c.join_len-needed.ensures (omega arith);
       memory = memory_not row c.args.out.now (omega arith);
       means = union_means lt o _ _;
       rises = rising_union lt o c.args.xs.now c.args.ys.now;

@@ -10,8 +10,8 @@ returns-then-needed-out g c =
     let o = g.met.T.Ordered.order in
     let row = removal lt c.args.x.now c.args.xs.now in
     record {
-      answer = answer_fits row _ _ c.write-without.ensures.count (omega arith);
-      memory = memory_fits row _ _ c.write-without.ensures.memory (omega arith);
+      answer = answer_fits row _ _ c.write_without.ensures.count (omega arith);
+      memory = memory_fits row _ _ c.write_without.ensures.memory (omega arith);
       means = removal_means lt o _ _;
       rises = rising_removal lt o c.args.x.now c.args.xs.now;
     }
@@ -22,7 +22,7 @@ returns-else-needed-out g c =
     let o = g.met.T.Ordered.order in
     let row = removal lt c.args.x.now c.args.xs.now in
     record {
-      answer = answer_not row _ _ _ c.too-short.ensures c.without-len-needed.ensures (omega arith);
+      answer = answer_not row _ _ _ c.too_short.ensures c.without_len-needed.ensures (omega arith);
       memory = memory_not row c.args.out.now (omega arith);
       means = removal_means lt o _ _;
       rises = rising_removal lt o c.args.x.now c.args.xs.now;

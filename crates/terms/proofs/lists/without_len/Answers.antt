@@ -6,8 +6,8 @@ use Rattle.terms.proofs.Turns.{drop_read, removal_drops, removal_keeps}
 use Rattle.terms.proofs.lists.without_len.Goals as goal
 use Rattle.terms.proofs.lists.without_len.Goals.{then-not-same, else-not-same}
 
-pub overflow-add-count : goal.overflow-add-count
-overflow-add-count g c =
+pub overflow_add-count : goal.overflow_add-count
+overflow_add-count g c =
     let next = drop_read _ _ _ c.loop-y-test.true c.y-item.is in
     omega (arith, ap length (removal_keeps g.T.Ordered.precedes _ _ _ _ next (sym c.if-not-same.ensures)), c.loop-y.invariant, removal_length g.T.Ordered.precedes c.args.x.now c.args.xs.now)
 

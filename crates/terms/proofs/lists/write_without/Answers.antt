@@ -12,8 +12,8 @@ bounds-out-count g c =
     let p = part_other _ _ _ _ _ _ (removal_keeps g.T.Ordered.precedes c.args.x.now _ _ _ next (sym c.if-not-same.ensures)) c.loop-y.invariant in
     part_room _ _ _ _ _ _ (omega (arith, c.requires, c.loop-y.auto.out)) p
 
-pub overflow-add-count : goal.overflow-add-count
-overflow-add-count g c =
+pub overflow_add-count : goal.overflow_add-count
+overflow_add-count g c =
     let next = drop_read _ _ _ c.loop-y-test.true c.y-item.is in
     let p = part_other _ _ _ _ _ _ (removal_keeps g.T.Ordered.precedes c.args.x.now _ _ _ next (sym c.if-not-same.ensures)) c.loop-y.invariant in
     omega (arith, part_room _ _ _ _ _ _ (omega (arith, c.requires, c.loop-y.auto.out)) p)

@@ -17,18 +17,18 @@ front xs n k e = go (cases_lt n (length xs))
 told : {X : Type 0} (lt : X → X → Bool) (xs : List X) (n k : ℕ) (t : Bool) → k ≡ min (length xs) n → t ≡ rising lt (take (k - 0) xs) → rising lt (take n xs) ≡ t
 told lt xs n k t e h = sym (h ∙ ap (rising lt) (front xs n k e))
 
-pub returns-then-not-is-rising : goal.returns-then-not-is-rising
-returns-then-not-is-rising g c =
-    cond-false _ _ _ (told g.T.Ordered.precedes c.args.items.now g.row.N c.min.result false c.min.ensures c.if-not-is-rising.ensures)
+pub returns-then-not-is_rising : goal.returns-then-not-is_rising
+returns-then-not-is_rising g c =
+    cond-false _ _ _ (told g.T.Ordered.precedes c.args.items.now g.row.N c.min.result false c.min.ensures c.if-not-is_rising.ensures)
 
 pub returns-in-Some : goal.returns-in-Some
 returns-in-Some g c =
-    let rises = told g.T.Ordered.precedes c.args.items.now g.row.N c.min.result true c.min.ensures c.if-not-is-rising.ensures in
+    let rises = told g.T.Ordered.precedes c.args.items.now g.row.N c.min.result true c.min.ensures c.if-not-is_rising.ensures in
     let list = c.in-Some.list in
     let few : length c.args.items.now ≤ g.row.N = omega (arith, ap length c.in-Some.ensures, length-take-le list.len list.items (omega arith)) in
     (c.in-Some.ensures, cond-true _ _ _ rises ∙ cond-true _ _ _ (le-leb _ _ few))
 
 pub returns-in-None : goal.returns-in-None
 returns-in-None g c =
-    let rises = told g.T.Ordered.precedes c.args.items.now g.row.N c.min.result true c.min.ensures c.if-not-is-rising.ensures in
+    let rises = told g.T.Ordered.precedes c.args.items.now g.row.N c.min.result true c.min.ensures c.if-not-is_rising.ensures in
     cond-true _ _ _ rises ∙ cond-false _ _ _ (lt-leb _ _ c.in-None.ensures)

@@ -1,4 +1,3 @@
-use Rattle.std.proofs.Common.{◌≡◌, true, sym, ◌∙◌, subst}
 use Rattle.terms.specs.Lists.{alike}
 use Rattle.terms.specs.Literals.{literal_precedes}
 use Rattle.terms.specs.Positions.{literal_order}
@@ -6,4 +5,4 @@ use Rattle.terms.proofs.Sets.{alike_decides}
 use Rattle.terms.proofs.literals.LiteralPartialEq.eq.Goals as goal
 
 pub returns : goal.returns
-returns c = alike_decides literal_precedes literal_order _ _ _ c.same.ensures
+returns c = record { value = c.same.ensures; decides = alike_decides literal_precedes literal_order _ _ _ c.same.ensures }

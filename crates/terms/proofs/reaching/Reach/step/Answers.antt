@@ -4,10 +4,10 @@ use Rattle.terms.proofs.Rows.{mapped_more, mapped_all}
 use Rattle.terms.specs.Tables.{extend}
 use Rattle.terms.proofs.reaching.Reach.step.Goals as goal
 
-pub invariant-of-self : goal.invariant-of-self
-invariant-of-self c =
+pub invariant_of-self : goal.invariant_of-self
+invariant_of-self c =
     let n = c.args.self.now.whole in
-    (ap length (mapped_all _ c.args.self.now.rows c.loop-row.row-items c.loop-row.row-index c.loop-row.invariant (omega arith)) ∙ length-map _ _ ∙ n, tt)
+    record { whole = ap length (mapped_all _ c.args.self.now.rows c.loop-row.row-items c.loop-row.row-index c.loop-row.invariant (omega arith)) ∙ length-map _ _ ∙ n }
 
 pub loop-row-preserved : goal.loop-row-preserved
 loop-row-preserved c =

@@ -3,8 +3,8 @@ use Rattle.terms.specs.Roles.{backwards, mirror, name_of}
 use Rattle.terms.specs.Codes.{mirror_name, mirror_twice, mirror_way, xor_below, xor_mirror}
 use Rattle.terms.proofs.roles.Role.mirror.Goals as goal
 
-pub invariant-of-result : goal.invariant-of-result
-invariant-of-result c = (xor_below c.args.self.code c.args.self.ok, tt)
+pub invariant_of-result : goal.invariant_of-result
+invariant_of-result c = record { ok = xor_below c.args.self.code c.args.self.ok }
 
 pub returns : goal.returns
 returns c =
