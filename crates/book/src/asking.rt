@@ -83,7 +83,7 @@ impl Book {
         sample: &S,
     ) -> Result<Answer, Refusal>
         requires { self.now.phase ≡ Phase.Closed }
-        ensures { result ≡ reply (contents self.now) (refute k.now m.now (meaning sample.now)) }
+        ensures { result ≡ reply (contents self.now) (refute k.now m.now (S.meaning sample.now)) }
     {
         judge(self.axioms.as_slice(), sample)?;
         match lowest_contradiction(k, m, sample) {

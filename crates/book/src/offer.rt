@@ -21,10 +21,10 @@ impl Book {
         scratch: &mut [Literal],
         sample: &S,
     ) -> Result<Answer, Refusal>
-        ensures answer { result ≡ reply (contents self.old) (call_of form.now (length scratch.old) (meaning sample.now)) }
-        ensures change { contents self.new ≡ after (contents self.old) (call_of form.now (length scratch.old) (meaning sample.now)) }
-        ensures scratch { scratch.new ≡ scratch_after (call_of form.now (length scratch.old) (meaning sample.now)) scratch.old }
-        ensures law { KeepsLaw (contents self.old) (call_of form.now (length scratch.old) (meaning sample.now)) result (contents self.new) }
+        ensures answer { result ≡ reply (contents self.old) (call_of form.now (length scratch.old) (S.meaning sample.now)) }
+        ensures change { contents self.new ≡ after (contents self.old) (call_of form.now (length scratch.old) (S.meaning sample.now)) }
+        ensures scratch { scratch.new ≡ scratch_after (call_of form.now (length scratch.old) (S.meaning sample.now)) scratch.old }
+        ensures law { KeepsLaw (contents self.old) (call_of form.now (length scratch.old) (S.meaning sample.now)) result (contents self.new) }
     {
         match (self.phase, form.kind()) {
             (Phase::Open, Kind::Axiom) => self.enter_axiom(form.implied()),

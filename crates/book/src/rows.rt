@@ -8,7 +8,7 @@ use terms::Ordered;
 // Puts x into the row of the first n items of `out`, unless it is there.
 fn put<T: Ordered>(out: &mut [T], n: usize, x: T) -> usize
     requires { n < length out.old }
-    ensures { Front out.new result (placed precedes x (take n out.old)) }
+    ensures { Front out.new result (placed T.precedes x (take n out.old)) }
 {
     let mut carry = x;
     for i in 0..n {
@@ -28,7 +28,7 @@ fn put<T: Ordered>(out: &mut [T], n: usize, x: T) -> usize
 pub(crate) fn put_capped<T: Ordered>(out: &mut [T], n: usize, x: T) -> usize
     requires { n ≤ length out.old }
     ensures fits { result ≤ length out.new }
-    ensures row { (row : List T) → Capped out.old n row → Capped out.new result (placed precedes x row) }
+    ensures row { (row : List T) → Capped out.old n row → Capped out.new result (placed T.precedes x row) }
 {
     if n < out.len() { put(out, n, x) } else { n }
 }
@@ -37,7 +37,7 @@ pub(crate) fn put_capped<T: Ordered>(out: &mut [T], n: usize, x: T) -> usize
 pub(crate) fn put_but<T: Ordered>(out: &mut [T], n: usize, xs: &[T], gone: T) -> usize
     requires { n ≤ length out.old }
     ensures fits { result ≤ length out.new }
-    ensures row { (row : List T) → Capped out.old n row → Capped out.new result (placed_all precedes (removal precedes gone xs.now) row) }
+    ensures row { (row : List T) → Capped out.old n row → Capped out.new result (placed_all T.precedes (removal T.precedes gone xs.now) row) }
 {
     let mut end = n;
     for x in xs {
@@ -52,7 +52,7 @@ pub(crate) fn put_but<T: Ordered>(out: &mut [T], n: usize, xs: &[T], gone: T) ->
 pub(crate) fn put_all<T: Ordered>(out: &mut [T], n: usize, xs: &[T]) -> usize
     requires { n ≤ length out.old }
     ensures fits { result ≤ length out.new }
-    ensures row { (row : List T) → Capped out.old n row → Capped out.new result (placed_all precedes xs.now row) }
+    ensures row { (row : List T) → Capped out.old n row → Capped out.new result (placed_all T.precedes xs.now row) }
 {
     let mut end = n;
     for x in xs {
@@ -63,7 +63,7 @@ pub(crate) fn put_all<T: Ordered>(out: &mut [T], n: usize, xs: &[T]) -> usize
 
 // Where two lists first differ, or the length of the shorter, or nothing where they are equal.
 pub(crate) fn first_difference<T: Ordered>(xs: &[T], ys: &[T]) -> Option<usize>
-    ensures { result ≡ first_apart precedes 0 xs.now ys.now }
+    ensures { result ≡ first_apart T.precedes 0 xs.now ys.now }
 {
     for i in 0..xs.len() {
         if i >= ys.len() {

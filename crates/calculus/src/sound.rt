@@ -8,7 +8,7 @@ use models::Interpreted;
 
 // In every interpretation, finite or infinite, the rules yield what is true.
 fn rules_hold<I: Interpreted>()
-    ensures { RulesHold I.Interpreted.meaning }
+    ensures { RulesHold I.meaning }
 {}
 
 // The checks of a step pass exactly when its rule yields its claim.
@@ -24,7 +24,7 @@ pub fn law_of_every_past()
 /// What a book showed, at any moment of its past, holds in every interpretation that satisfies its axioms: in any, finite or infinite, whose sets
 /// are any predicates.
 pub fn shown_holds<I: Interpreted>()
-    ensures { ShownHolds I.Interpreted.meaning }
+    ensures { ShownHolds I.meaning }
 {}
 
 /// The worked session gets the answers that are written beside it.

@@ -9,7 +9,7 @@ use terms::{Refusal, Short};
 
 // Whether the item may stand after the last one, if there is one.
 fn may_stand<T: Numbered>(last: Option<T>, item: T) -> bool
-    ensures { result ≡ may_stand follows (option_map numbers last) (numbers item) }
+    ensures { result ≡ may_stand T.follows (option_map T.numbers last) (T.numbers item) }
 {
     match last {
         Some(before) => item.may_follow(&before),
@@ -23,7 +23,7 @@ pub fn list_of<T: Numbered, const N: usize>(
     stated: &[T::Numbers],
     filler: T,
 ) -> Result<Short<T, N>, Refusal>
-    ensures { MadeOrRefused (λ s. map numbers (held s)) (items_refusal refused follows N None) stated.now result }
+    ensures { MadeOrRefused (λ s. map T.numbers (held s)) (items_refusal T.refused T.follows N None) stated.now result }
 {
     let mut list = Short::new(filler);
     let mut last = None;

@@ -13,6 +13,6 @@ pub trait Interpreted {
 /// In every interpretation, the pairs of a mirror are the pairs turned round; and where it satisfies each of some inclusions, the pairs of
 /// a role are pairs of every role that it reaches by them.
 pub fn pairs_follow_reach<I: Interpreted>()
-    ensures mirrored { (E x y : ℕ) → Pair I.Interpreted.meaning (mirror E) x y ↔ Pair I.Interpreted.meaning E y x }
-    ensures along { (l : List Inclusion) → ((E F : ℕ) → (E, F) ∈ l → Satisfies I.Interpreted.meaning (under E F)) → (E S : ℕ) → Reaches l E S → (x y : ℕ) → Pair I.Interpreted.meaning E x y → Pair I.Interpreted.meaning S x y }
+    ensures mirrored { (E x y : ℕ) → Pair I.meaning (mirror E) x y ↔ Pair I.meaning E y x }
+    ensures along { (l : List Inclusion) → ((E F : ℕ) → (E, F) ∈ l → Satisfies I.meaning (under E F)) → (E S : ℕ) → Reaches l E S → (x y : ℕ) → Pair I.meaning E x y → Pair I.meaning S x y }
 {}

@@ -12,7 +12,7 @@ use terms::{Literal, Refusal, Role};
 
 // Whether (x, y) is a pair of the role.
 fn is_pair<S: Sample>(sample: &S, e: Role, x: u8, y: u8) -> bool
-    ensures { result ≡ pair_test (meaning sample.now) e.code x y }
+    ensures { result ≡ pair_test (S.meaning sample.now) e.code x y }
 {
     if e.is_backwards() {
         sample.links(e.name(), y, x)
@@ -23,7 +23,7 @@ fn is_pair<S: Sample>(sample: &S, e: Role, x: u8, y: u8) -> bool
 
 // Whether (x, y) is a pair of the role with y in the concept, or, where `wanted` is false, not in it.
 fn is_filler<S: Sample>(sample: &S, e: Role, a: u8, wanted: bool, x: u8, y: u8) -> bool
-    ensures { result ≡ filler_at (meaning sample.now) e.code a wanted x y }
+    ensures { result ≡ filler_at (S.meaning sample.now) e.code a wanted x y }
 {
     if !is_pair(sample, e, x, y) {
         false
@@ -36,7 +36,7 @@ fn is_filler<S: Sample>(sample: &S, e: Role, a: u8, wanted: bool, x: u8, y: u8) 
 
 // Whether some pair (x, y) of the role has y in the concept, or, where `wanted` is false, not in it.
 fn has_filler<S: Sample>(sample: &S, e: Role, a: u8, wanted: bool, x: u8) -> bool
-    ensures { result ≡ filler_test (meaning sample.now) e.code a wanted x }
+    ensures { result ≡ filler_test (S.meaning sample.now) e.code a wanted x }
 {
     for y in 0..sample.size() {
         if is_filler(sample, e, a, wanted, x, y) {
@@ -48,14 +48,14 @@ fn has_filler<S: Sample>(sample: &S, e: Role, a: u8, wanted: bool, x: u8) -> boo
 
 // Whether (x, y) is a pair of e and not of s.
 fn is_missing<S: Sample>(sample: &S, e: Role, s: Role, x: u8, y: u8) -> bool
-    ensures { result ≡ missing_at (meaning sample.now) e.code s.code x y }
+    ensures { result ≡ missing_at (S.meaning sample.now) e.code s.code x y }
 {
     is_pair(sample, e, x, y) && !is_pair(sample, s, x, y)
 }
 
 // Whether some pair (x, y) of e is not a pair of s.
 fn misses_pair<S: Sample>(sample: &S, e: Role, s: Role, x: u8) -> bool
-    ensures { result ≡ missing_test (meaning sample.now) e.code s.code x }
+    ensures { result ≡ missing_test (S.meaning sample.now) e.code s.code x }
 {
     for y in 0..sample.size() {
         if is_missing(sample, e, s, x, y) {
@@ -67,7 +67,7 @@ fn misses_pair<S: Sample>(sample: &S, e: Role, s: Role, x: u8) -> bool
 
 // Whether x is in the literal.
 fn is_in_literal<S: Sample>(sample: &S, x: u8, literal: Literal) -> bool
-    ensures { result ≡ literal_test (meaning sample.now) x literal }
+    ensures { result ≡ literal_test (S.meaning sample.now) x literal }
 {
     match literal {
         Literal::Concept(a) => sample.is_in(a, x),
@@ -78,7 +78,7 @@ fn is_in_literal<S: Sample>(sample: &S, x: u8, literal: Literal) -> bool
 
 // Whether x is in all the concepts.
 fn is_in_all<S: Sample>(sample: &S, x: u8, concepts: &[u8]) -> bool
-    ensures { result ≡ all_test (meaning sample.now) x concepts.now }
+    ensures { result ≡ all_test (S.meaning sample.now) x concepts.now }
 {
     for a in concepts {
         if !sample.is_in(*a, x) {
@@ -90,7 +90,7 @@ fn is_in_all<S: Sample>(sample: &S, x: u8, concepts: &[u8]) -> bool
 
 // Whether x is in one of the concepts.
 fn is_in_any<S: Sample>(sample: &S, x: u8, concepts: &[u8]) -> bool
-    ensures { result ≡ any_test (meaning sample.now) x concepts.now }
+    ensures { result ≡ any_test (S.meaning sample.now) x concepts.now }
 {
     for a in concepts {
         if sample.is_in(*a, x) {
@@ -102,7 +102,7 @@ fn is_in_any<S: Sample>(sample: &S, x: u8, concepts: &[u8]) -> bool
 
 // Whether x is in one of the literals.
 fn is_in_some<S: Sample>(sample: &S, x: u8, literals: &[Literal]) -> bool
-    ensures { result ≡ some_test (meaning sample.now) x literals.now }
+    ensures { result ≡ some_test (S.meaning sample.now) x literals.now }
 {
     for literal in literals {
         if is_in_literal(sample, x, *literal) {
@@ -114,7 +114,7 @@ fn is_in_some<S: Sample>(sample: &S, x: u8, literals: &[Literal]) -> bool
 
 // Whether the axiom fails at x.
 fn fails_at<S: Sample>(sample: &S, axiom: Axiom, x: u8) -> bool
-    ensures { result ≡ fails_test (meaning sample.now) (sentence_of «axiom») x }
+    ensures { result ≡ fails_test (S.meaning sample.now) (sentence_of «axiom») x }
 {
     match axiom {
         Axiom::Implies(sides) => is_in_all(sample, x, sides.left())
@@ -125,7 +125,7 @@ fn fails_at<S: Sample>(sample: &S, axiom: Axiom, x: u8) -> bool
 
 // The lowest element at which the axiom fails.
 fn lowest_failure<S: Sample>(sample: &S, axiom: Axiom) -> Option<u8>
-    ensures { result ≡ first_failure (meaning sample.now) (sentence_of «axiom») }
+    ensures { result ≡ first_failure (S.meaning sample.now) (sentence_of «axiom») }
 {
     for x in 0..sample.size() {
         if fails_at(sample, axiom, x) {
@@ -137,9 +137,9 @@ fn lowest_failure<S: Sample>(sample: &S, axiom: Axiom) -> Option<u8>
 
 /// The sample's own fault (19 or 20), or else the lowest axiom that fails in it, with the lowest element at which it does (21).
 pub fn judge<S: Sample>(axioms: &[Axiom], sample: &S) -> Result<(), Refusal>
-    ensures value { result ≡ verdict (meaning sample.now) (map sentence_of axioms.now) }
-    ensures passes { fault_of (meaning sample.now) ≡ None → Decides (is_ok result) (Models (interpretation (meaning sample.now)) (map sentence_of axioms.now)) }
-    ensures fails { (i x : ℕ) → fault_of (meaning sample.now) ≡ None → result ≡ Err (AxiomFails i x) → LowestFailure (interpretation (meaning sample.now)) (map sentence_of axioms.now) i x }
+    ensures value { result ≡ verdict (S.meaning sample.now) (map sentence_of axioms.now) }
+    ensures passes { fault_of (S.meaning sample.now) ≡ None → Decides (is_ok result) (Models (interpretation (S.meaning sample.now)) (map sentence_of axioms.now)) }
+    ensures fails { (i x : ℕ) → fault_of (S.meaning sample.now) ≡ None → result ≡ Err (AxiomFails i x) → LowestFailure (interpretation (S.meaning sample.now)) (map sentence_of axioms.now) i x }
 {
     match sample.fault() {
         Some(fault) => Err(fault.refusal()),
@@ -149,7 +149,7 @@ pub fn judge<S: Sample>(axioms: &[Axiom], sample: &S) -> Result<(), Refusal>
 
 // The lowest axiom that fails in the sample, and the lowest element at which it does.
 fn judge_axioms<S: Sample>(axioms: &[Axiom], sample: &S) -> Result<(), Refusal>
-    ensures { result ≡ judged_from (meaning sample.now) 0 (map sentence_of axioms.now) }
+    ensures { result ≡ judged_from (S.meaning sample.now) 0 (map sentence_of axioms.now) }
 {
     for i in 0..axioms.len() {
         if let Some(x) = lowest_failure(sample, axioms[i]) {
@@ -164,8 +164,8 @@ fn judge_axioms<S: Sample>(axioms: &[Axiom], sample: &S) -> Result<(), Refusal>
 
 /// The lowest element in all of `left` and in none of `right`, if there is one.
 pub fn lowest_contradiction<S: Sample>(left: &[u8], right: &[u8], sample: &S) -> Option<u8>
-    ensures value { result ≡ contradiction (meaning sample.now) left.now right.now }
-    ensures means { fault_of (meaning sample.now) ≡ None → MatchOption result ((x : ℕ) → Contradicts (interpretation (meaning sample.now)) left.now right.now x → ⊥) (LowestContradiction (interpretation (meaning sample.now)) left.now right.now) }
+    ensures value { result ≡ contradiction (S.meaning sample.now) left.now right.now }
+    ensures means { fault_of (S.meaning sample.now) ≡ None → MatchOption result ((x : ℕ) → Contradicts (interpretation (S.meaning sample.now)) left.now right.now x → ⊥) (LowestContradiction (interpretation (S.meaning sample.now)) left.now right.now) }
 {
     for x in 0..sample.size() {
         if contradicts_at(left, right, sample, x) {
@@ -177,7 +177,7 @@ pub fn lowest_contradiction<S: Sample>(left: &[u8], right: &[u8], sample: &S) ->
 
 // Whether x is in all of `left` and in none of `right`.
 fn contradicts_at<S: Sample>(left: &[u8], right: &[u8], sample: &S, x: u8) -> bool
-    ensures { result ≡ contradicts_test (meaning sample.now) left.now right.now x }
+    ensures { result ≡ contradicts_test (S.meaning sample.now) left.now right.now x }
 {
     is_in_all(sample, x, left) && !is_in_any(sample, x, right)
 }

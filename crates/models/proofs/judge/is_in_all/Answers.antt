@@ -3,15 +3,15 @@ use Rattle.models.specs.Meanings.{element_in}
 use Rattle.models.proofs.Search.{every_end, every_miss, every_more}
 use Rattle.models.proofs.judge.is_in_all.Goals as goal
 
-pub returns-then-not-is-in : goal.returns-then-not-is-in
-returns-then-not-is-in g c =
+pub returns-then-not-is_in : goal.returns-then-not-is_in
+returns-then-not-is_in g c =
     let p : ℕ → Bool = λ A. element_in (g.S.Sample.meaning c.args.sample.now) A c.args.x in
-    every_miss p c.args.concepts.now c.loop-a.a-index c.loop-a.invariant 0 c.loop-a-test.true c.if-not-is-in.ensures
+    every_miss p c.args.concepts.now c.loop-a.a-index c.loop-a.invariant 0 c.loop-a-test.true c.if-not-is_in.ensures
 
 pub loop-a-preserved : goal.loop-a-preserved
 loop-a-preserved g c =
     let p : ℕ → Bool = λ A. element_in (g.S.Sample.meaning c.args.sample.now) A c.args.x in
-    every_more p c.args.concepts.now c.loop-a.a-index c.loop-a.invariant 0 c.loop-a-test.true c.if-not-is-in.ensures
+    every_more p c.args.concepts.now c.loop-a.a-index c.loop-a.invariant 0 c.loop-a-test.true c.if-not-is_in.ensures
 
 pub returns : goal.returns
 returns g c =

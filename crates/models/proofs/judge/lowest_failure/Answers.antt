@@ -4,17 +4,17 @@ use Rattle.models.specs.Judging.{fails_test}
 use Rattle.models.proofs.Search.{ended, hit, passed}
 use Rattle.models.proofs.judge.lowest_failure.Goals as goal
 
-pub returns-then-fails-at : goal.returns-then-fails-at
-returns-then-fails-at g c =
+pub returns-then-fails_at : goal.returns-then-fails_at
+returns-then-fails_at g c =
     let m = g.S.Sample.meaning c.args.sample.now in
     let p = fails_test m (sentence_of c.args.axiom) in
-    hit p m.size c.loop-x.x c.loop-x.invariant (omega arith) (sym {b = p c.loop-x.x} c.if-fails-at.ensures)
+    hit p m.size c.loop-x.x c.loop-x.invariant (omega arith) (sym {b = p c.loop-x.x} c.if-fails_at.ensures)
 
 pub loop-x-preserved : goal.loop-x-preserved
 loop-x-preserved g c =
     let m = g.S.Sample.meaning c.args.sample.now in
     let p = fails_test m (sentence_of c.args.axiom) in
-    passed p m.size c.loop-x.x c.loop-x.invariant (omega arith) (sym {b = p c.loop-x.x} c.if-fails-at.ensures)
+    passed p m.size c.loop-x.x c.loop-x.invariant (omega arith) (sym {b = p c.loop-x.x} c.if-fails_at.ensures)
 
 pub returns : goal.returns
 returns g c =

@@ -4,17 +4,17 @@ use Rattle.models.specs.Judging.{missing_at}
 use Rattle.models.proofs.Search.{ended, hit, passed}
 use Rattle.models.proofs.judge.misses_pair.Goals as goal
 
-pub returns-then-is-missing : goal.returns-then-is-missing
-returns-then-is-missing g c =
+pub returns-then-is_missing : goal.returns-then-is_missing
+returns-then-is_missing g c =
     let m = g.S.Sample.meaning c.args.sample.now in
     let p = missing_at m c.args.e.code c.args.s.code c.args.x in
-    ap is_some (hit p m.size c.loop-y.y c.loop-y.invariant (omega arith) (sym {b = p c.loop-y.y} c.if-is-missing.ensures))
+    ap is_some (hit p m.size c.loop-y.y c.loop-y.invariant (omega arith) (sym {b = p c.loop-y.y} c.if-is_missing.ensures))
 
 pub loop-y-preserved : goal.loop-y-preserved
 loop-y-preserved g c =
     let m = g.S.Sample.meaning c.args.sample.now in
     let p = missing_at m c.args.e.code c.args.s.code c.args.x in
-    passed p m.size c.loop-y.y c.loop-y.invariant (omega arith) (sym {b = p c.loop-y.y} c.if-is-missing.ensures)
+    passed p m.size c.loop-y.y c.loop-y.invariant (omega arith) (sym {b = p c.loop-y.y} c.if-is_missing.ensures)
 
 pub returns : goal.returns
 returns g c =

@@ -12,6 +12,6 @@ returns-then-x-self c =
     let x = c.args.x in
     let n = c.args.self.now.size in
     record {
-      value = clipped c.some-says.result x n c.if-x-self.true ∙ ap (λ b. ltb x n && b) (c.some-says.ensures.value ∙ ap (λ es. says es f) c.entries.ensures);
-      entry = λ _. subst (λ (es : List Entry). Decides c.some-says.result (f ∈ map fact_of es)) c.entries.ensures c.some-says.ensures.means;
+      value = clipped c.some_says.result x n c.if-x-self.true ∙ ap (λ b. ltb x n && b) (c.some_says.ensures.value ∙ ap (λ es. says es f) c.entries.ensures);
+      entry = λ _. subst (λ (es : List Entry). Decides c.some_says.result (f ∈ map fact_of es)) c.entries.ensures c.some_says.ensures.means;
     }

@@ -14,6 +14,6 @@ returns-then-y-self c =
     let n = c.args.self.now.size in
     let both = and_from _ _ (lt-ltb x n c.if-x-self.true) (lt-ltb y n c.if-y-self.true) in
     record {
-      value = ap (λ b. b && c.some-says.result) (sym both) ∙ ap (λ b. (ltb x n && ltb y n) && b) (c.some-says.ensures.value ∙ ap (λ es. says es f) c.entries.ensures);
-      entry = λ _ _. subst (λ (es : List Entry). Decides c.some-says.result (f ∈ map fact_of es)) c.entries.ensures c.some-says.ensures.means;
+      value = ap (λ b. b && c.some_says.result) (sym both) ∙ ap (λ b. (ltb x n && ltb y n) && b) (c.some_says.ensures.value ∙ ap (λ es. says es f) c.entries.ensures);
+      entry = λ _ _. subst (λ (es : List Entry). Decides c.some_says.result (f ∈ map fact_of es)) c.entries.ensures c.some_says.ensures.means;
     }
