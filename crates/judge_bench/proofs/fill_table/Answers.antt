@@ -3,7 +3,7 @@ use Rattle.std.proofs.lemmas.Bool.{cond-true, cond-false}
 use Rattle.std.proofs.lemmas.Bool.Decides.{nat_tests}
 use Rattle.judge_bench.specs.Benching.{filled, is_filled}
 use Rattle.judge_bench.proofs.fill_table.Goals as goal
-use Rattle.judge_bench.proofs.fill_table.Goals.{then-i-lt-LEFT-END, else-i-lt-LEFT-END+else-i-ge-ROLES-BEGIN}
+use Rattle.judge_bench.proofs.fill_table.Goals.{then-i-lt-LEFT_END, else-i-lt-LEFT_END+else-i-ge-ROLES_BEGIN}
 
 -- the bytes before i are filled, and the others are as they were
 abbrev FilledTo : ℕ → List ℕ → List ℕ → Type 0
@@ -34,7 +34,7 @@ pub loop-i-preserved : goal.loop-i-preserved
 loop-i-preserved c =
     let i = c.loop-i.i in
     let bytes = c.loop-i.bytes in
-    elim c.if-i-lt-LEFT-END.branch [
-      | then-i-lt-LEFT-END w ↦ subst (FilledTo (i + 1) c.args.bytes.now) (sym w.bytes-is) (byte_written i _ bytes (omega arith) (filled_row i w.then-i-lt-LEFT-END.either) c.loop-i.invariant)
-      | else-i-lt-LEFT-END+else-i-ge-ROLES-BEGIN w ↦ subst (FilledTo (i + 1) c.args.bytes.now) (sym w.bytes-is) (byte_kept i _ bytes (other_row i (omega arith) (omega arith)) c.loop-i.invariant)
+    elim c.if-i-lt-LEFT_END.branch [
+      | then-i-lt-LEFT_END w ↦ subst (FilledTo (i + 1) c.args.bytes.now) (sym w.bytes-is) (byte_written i _ bytes (omega arith) (filled_row i w.then-i-lt-LEFT_END.either) c.loop-i.invariant)
+      | else-i-lt-LEFT_END+else-i-ge-ROLES_BEGIN w ↦ subst (FilledTo (i + 1) c.args.bytes.now) (sym w.bytes-is) (byte_kept i _ bytes (other_row i (omega arith) (omega arith)) c.loop-i.invariant)
     ]

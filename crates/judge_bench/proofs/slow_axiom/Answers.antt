@@ -13,13 +13,13 @@ known role E below is = role_same role (role_of E below) is
 
 pub returns : goal.returns
 returns c =
-    let zero = known c.in-ok-new.field-0 0 (lit< tt) c.in-ok-new.ensures in
-    let one = known c.in-ok-new-2.field-0 1 (lit< tt) c.in-ok-new-2.ensures in
-    let two = known c.in-ok-new-3.field-0 2 (lit< tt) c.in-ok-new-3.ensures in
-    let three = known c.in-ok-new-4.field-0 3 (lit< tt) c.in-ok-new-4.ensures in
-    let four = known c.in-ok-new-5.field-0 4 (lit< tt) c.in-ok-new-5.ensures in
-    let five = known c.in-ok-new-6.field-0 5 (lit< tt) c.in-ok-new-6.ensures in
-    let twelve = known c.in-ok-new-7.field-0 12 (lit< tt) c.in-ok-new-7.ensures in
-    let sides = c.in-ok-new-8.ensures in
+    let zero = known c.in_ok-new.field-0 0 (lit< tt) c.in_ok-new.ensures in
+    let one = known c.in_ok-new-2.field-0 1 (lit< tt) c.in_ok-new-2.ensures in
+    let two = known c.in_ok-new-3.field-0 2 (lit< tt) c.in_ok-new-3.ensures in
+    let three = known c.in_ok-new-4.field-0 3 (lit< tt) c.in_ok-new-4.ensures in
+    let four = known c.in_ok-new-5.field-0 4 (lit< tt) c.in_ok-new-5.ensures in
+    let five = known c.in_ok-new-6.field-0 5 (lit< tt) c.in_ok-new-6.ensures in
+    let twelve = known c.in_ok-new-7.field-0 12 (lit< tt) c.in_ok-new-7.ensures in
+    let sides = c.in_ok-new-8.ensures in
     let right = sides.1 ∙ (λ i. Exists (zero i) 200 ∷ Exists (one i) 200 ∷ Exists (two i) 200 ∷ Exists (three i) 200 ∷ Exists (four i) 200 ∷ Exists (five i) 200 ∷ Forall (twelve i) 0 ∷ []) in
     λ i. implies (sides.0 i) (right i)

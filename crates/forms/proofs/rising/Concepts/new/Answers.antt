@@ -5,12 +5,12 @@ use Rattle.forms.specs.Numbers.{concepts_refusal}
 use Rattle.forms.proofs.Passed.{rises}
 use Rattle.forms.proofs.rising.Concepts.new.Goals as goal
 
-pub invariant-of-result : goal.invariant-of-result
-invariant-of-result c =
-    let made = c.in-ok-list.ensures in
-    (rises _ ltb (λ A. A) ltb (λ x y. refl) 8 _ (held c.in-ok-list.list) (ap concepts_refusal made.0 ∙ made.1), tt)
+pub invariant_of-result : goal.invariant_of-result
+invariant_of-result c =
+    let made = c.in_ok-list.ensures in
+    record { rises = rises _ ltb (λ A. A) ltb (λ x y. refl) 8 _ (held c.in_ok-list.list) (ap concepts_refusal made.0 ∙ made.1) }
 
 pub returns : goal.returns
 returns c =
-    let made = c.in-ok-list.ensures in
-    (sym (map-id (held c.in-ok-list.list)) ∙ made.0, made.1)
+    let made = c.in_ok-list.ensures in
+    (sym (map-id (held c.in_ok-list.list)) ∙ made.0, made.1)
