@@ -6,13 +6,13 @@ use Rattle.terms.specs.declared.literals.Literal.TheVariants.{Concept}
 use Rattle.terms.proofs.Turns.{contained_turn, drop_read}
 use Rattle.book.proofs.asking.are_concepts_of.Goals as goal
 
-pub returns-then-not-is-concept-of : goal.returns-then-not-is-concept-of
-returns-then-not-is-concept-of c =
-    contained_turn literal_precedes _ _ _ (map Concept c.args.concepts.now) _ (drop_read _ _ _ c.loop-literal-test.true c.literal-item.is) c.if-not-is-concept-of.ensures ∙ c.loop-literal.invariant
+pub returns-then-not-is_concept_of : goal.returns-then-not-is_concept_of
+returns-then-not-is_concept_of c =
+    contained_turn literal_precedes _ _ _ (map Concept c.args.concepts.now) _ (drop_read _ _ _ c.loop-literal-test.true c.literal-item.is) c.if-not-is_concept_of.ensures ∙ c.loop-literal.invariant
 
 pub loop-literal-preserved : goal.loop-literal-preserved
 loop-literal-preserved c =
-    contained_turn literal_precedes _ _ _ (map Concept c.args.concepts.now) _ (drop_read _ _ _ c.loop-literal-test.true c.literal-item.is) c.if-not-is-concept-of.ensures ∙ c.loop-literal.invariant
+    contained_turn literal_precedes _ _ _ (map Concept c.args.concepts.now) _ (drop_read _ _ _ c.loop-literal-test.true c.literal-item.is) c.if-not-is_concept_of.ensures ∙ c.loop-literal.invariant
 
 pub returns : goal.returns
 returns c =

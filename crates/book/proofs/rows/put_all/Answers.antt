@@ -10,8 +10,8 @@ loop-x-init g c = (c.requires, λ row k. (row, k, refl))
 pub loop-x-preserved : goal.loop-x-preserved
 loop-x-preserved g c =
     let here = drop_read c.args.xs.now c.loop-x.x-index c.x-item.result c.loop-x-test.true c.x-item.is in (
-      c.put-capped-end.ensures.fits,
-      way_put g.T.Ordered.precedes c.args.out.now c.loop-x.out c.put-capped-end.new.out c.args.n c.loop-x.end c.put-capped-end.result c.x-item.result _ _ c.args.xs.now here c.put-capped-end.ensures.row c.loop-x.invariant.1,
+      c.put_capped-end.ensures.fits,
+      way_put g.T.Ordered.precedes c.args.out.now c.loop-x.out c.put_capped-end.new.out c.args.n c.loop-x.end c.put_capped-end.result c.x-item.result _ _ c.args.xs.now here c.put_capped-end.ensures.row c.loop-x.invariant.1,
     )
 
 pub returns : goal.returns

@@ -22,7 +22,7 @@ loop-x-preserved g c =
     let all = removal lt gone xs in
     let here = drop_read xs i x c.loop-x-test.true c.x-item.is in
     elim c.if-not-same.branch [
-      | then-not-same w ↦ rw (w.out-is, w.end-is) (w.put-capped-end.ensures.fits, way_put lt before out w.put-capped-end.new.out n c.loop-x.end w.put-capped-end.result x _ _ all (removal_keeps lt gone x _ _ here (sym w.if-not-same.ensures)) w.put-capped-end.ensures.row c.loop-x.invariant.1)
+      | then-not-same w ↦ rw (w.out-is, w.end-is) (w.put_capped-end.ensures.fits, way_put lt before out w.put_capped-end.new.out n c.loop-x.end w.put_capped-end.result x _ _ all (removal_keeps lt gone x _ _ here (sym w.if-not-same.ensures)) w.put_capped-end.ensures.row c.loop-x.invariant.1)
       | else-not-same w ↦ rw (w.out-is, w.end-is) (c.loop-x.invariant.0, way_other lt before out n c.loop-x.end _ _ all (removal_drops lt gone x _ _ here (sym w.if-not-same.ensures)) c.loop-x.invariant.1)
     ]
 

@@ -6,8 +6,8 @@ use Rattle.calculus.specs.Checks.{sides_of}
 use Rattle.book.proofs.Listed.{there, not_there}
 use Rattle.book.proofs.state.Book.concept_axiom.Goals as goal
 
-pub returns-in-default : goal.returns-in-default
-returns-in-default c = ap (sides_of (NoConceptAxiom c.args.x)) (not_there sentence_of (held c.args.self.now.axioms) c.args.x c.in-default.ensures)
+pub returns-in_default : goal.returns-in_default
+returns-in_default c = ap (sides_of (NoConceptAxiom c.args.x)) (not_there sentence_of (held c.args.self.now.axioms) c.args.x c.in_default.ensures)
 
 pub returns-in-Implies : goal.returns-in-Implies
 returns-in-Implies c =

@@ -12,26 +12,26 @@ use Rattle.book.proofs.Asked.{covers_apart, covers_within}
 use Rattle.book.proofs.Listed.{not_there, there}
 use Rattle.book.proofs.state.Book.covers.Goals as goal
 
-pub returns-then-is-within : goal.returns-then-is-within
-returns-then-is-within c =
+pub returns-then-is_within : goal.returns-then-is_within
+returns-then-is_within c =
     let cores = held c.args.self.now.contexts in
     let head = held c.args.clause.now.head in
     let K = c.args.k.now in
     let M = c.args.m.now in
     let found = there (λ (s : Short ℕ 8). held s) cores c.args.clause.now.context c.in-Some.concepts c.in-Some.ensures in
-    let within = ap (λ (l : List ℕ). contained ltb l K) (sym c.as-slice.ensures.value) ∙ sym c.if-is-within.ensures.value in
-    c.are-concepts-of.ensures
-    ∙ ap (λ (l : List Literal). contained literal_precedes l (map Concept M)) c.as-slice-then-is-within.ensures.value
+    let within = ap (λ (l : List ℕ). contained ltb l K) (sym c.as_slice.ensures.value) ∙ sym c.if-is_within.ensures.value in
+    c.are_concepts_of.ensures
+    ∙ ap (λ (l : List Literal). contained literal_precedes l (map Concept M)) c.as_slice-then-is_within.ensures.value
     ∙ covers_within (slice_get (contents c.args.self.now).contexts c.args.clause.now.context) (held c.in-Some.concepts) head K M found within
 
-pub returns-else-is-within : goal.returns-else-is-within
-returns-else-is-within c =
+pub returns-else-is_within : goal.returns-else-is_within
+returns-else-is_within c =
     let cores = held c.args.self.now.contexts in
     let head = held c.args.clause.now.head in
     let K = c.args.k.now in
     let found = there (λ (s : Short ℕ 8). held s) cores c.args.clause.now.context c.in-Some.concepts c.in-Some.ensures in
-    let apart = ap (λ (l : List ℕ). contained ltb l K) (sym c.as-slice.ensures.value) ∙ sym c.if-is-within.ensures.value in
-    c.if-is-within.false ∙ covers_apart (slice_get (contents c.args.self.now).contexts c.args.clause.now.context) (held c.in-Some.concepts) head K c.args.m.now found apart
+    let apart = ap (λ (l : List ℕ). contained ltb l K) (sym c.as_slice.ensures.value) ∙ sym c.if-is_within.ensures.value in
+    c.if-is_within.false ∙ covers_apart (slice_get (contents c.args.self.now).contexts c.args.clause.now.context) (held c.in-Some.concepts) head K c.args.m.now found apart
 
 pub returns-in-None : goal.returns-in-None
 returns-in-None c =

@@ -13,10 +13,10 @@ use Rattle.book.proofs.Included.{no_inclusion_added}
 use Rattle.calculus.proofs.Rooms.{granted_after, granted_reply, refused_after, refused_reply, room_no, room_yes}
 use Rattle.book.proofs.state.Book.enter_axiom.Goals as goal
 
-pub invariant-of-self : goal.invariant-of-self
-invariant-of-self c =
+pub invariant_of-self : goal.invariant_of-self
+invariant_of-self c =
     let same = no_inclusion_added c.args.implied c.push.result (held c.args.self.now.axioms) (held c.push.new.self) c.push.ensures.change in
-    (λ E S b. c.args.self.now.tied E S b ∙ ap (λ (l : List Inclusion). reach_test l E S) (sym same), tt)
+    record { tied = λ E S b. c.args.self.now.tied E S b ∙ ap (λ (l : List Inclusion). reach_test l E S) (sym same) }
 
 pub returns-then-push : goal.returns-then-push
 returns-then-push c =

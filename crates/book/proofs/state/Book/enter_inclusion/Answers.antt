@@ -14,11 +14,11 @@ use Rattle.book.proofs.Included.{inclusion_added}
 use Rattle.calculus.proofs.Rooms.{granted_after, granted_reply, refused_after, refused_reply, room_no, room_yes}
 use Rattle.book.proofs.state.Book.enter_inclusion.Goals as goal
 
-pub invariant-of-self : goal.invariant-of-self
-invariant-of-self c =
+pub invariant_of-self : goal.invariant_of-self
+invariant_of-self c =
     let old = held c.args.self.now.axioms in
     let more = inclusion_added c.args.e c.args.s old (held c.push.new.self) c.if-push.ensures.change in
-    (λ E S b. c.include.ensures (inclusions (map sentence_of old)) c.args.self.now.tied E S b ∙ ap (λ (l : List Inclusion). reach_test l E S) (sym more), tt)
+    record { tied = λ E S b. c.include.ensures (inclusions (map sentence_of old)) c.args.self.now.tied E S b ∙ ap (λ (l : List Inclusion). reach_test l E S) (sym more) }
 
 pub returns-then-push : goal.returns-then-push
 returns-then-push c =

@@ -13,14 +13,14 @@ use Rattle.book.proofs.Gathers.{gather_ends, gather_on, gather_stops}
 use Rattle.book.proofs.Pairs.{pairs_more, pairs_none}
 use Rattle.book.proofs.state.Book.gather.Goals as goal
 
-pub returns-in-err-head : goal.returns-in-err-head
-returns-in-err-head c =
+pub returns-in_err-head : goal.returns-in_err-head
+returns-in_err-head c =
     let left = c.args.left.now in
     let ns = c.args.premises.now in
     let i = c.loop-i.i in
-    let p = err_from_is_err_and c.from-residual.result c.from-residual.ensures.1 in
+    let p = err_from_is_err_and c.from_residual.result c.from_residual.ensures.1 in
     rw (p.1, p.2)
-    (gather_stops (premise_test (contents c.args.self.now).clauses c.args.v) premise_brings (pairs left ns) c.args.out.now c.args.start c.loop-i.out c.loop-i.n i (pairs (drop i left) (drop i ns)) c.loop-i.invariant.1 _ _ (pairs_more left ns i 0 0 c.loop-i-test.true (omega arith)) c.loop-i.out _ c.in-err-head.ensures)
+    (gather_stops (premise_test (contents c.args.self.now).clauses c.args.v) premise_brings (pairs left ns) c.args.out.now c.args.start c.loop-i.out c.loop-i.n i (pairs (drop i left) (drop i ns)) c.loop-i.invariant.1 _ _ (pairs_more left ns i 0 0 c.loop-i-test.true (omega arith)) c.loop-i.out _ c.in_err-head.ensures)
 
 pub loop-i-preserved : goal.loop-i-preserved
 loop-i-preserved c =
@@ -29,12 +29,12 @@ loop-i-preserved c =
     let i = c.loop-i.i in
     let n = c.loop-i.n in
     let out = c.loop-i.out in
-    let after = c.put-but-n.new.out in
-    let r = c.put-but-n.result in
+    let after = c.put_but-n.new.out in
+    let r = c.put_but-n.result in
     let own = Concept (get_or left i 0) in
-    let put = subst (λ (l : List Literal). (row : List Literal) → Capped out n row → Capped after r (placed_all literal_precedes (removal literal_precedes own l) row)) c.as-slice.ensures.value c.put-but-n.ensures.row in (
-      c.put-but-n.ensures.fits,
-      gather_on (premise_test (contents c.args.self.now).clauses c.args.v) premise_brings (pairs left ns) c.args.out.now c.args.start out n i (pairs (drop i left) (drop i ns)) c.loop-i.invariant.1 (get_or left i 0, get_or ns i 0) _ (pairs_more left ns i 0 0 c.loop-i-test.true (omega arith)) (held c.in-ok-head.head) after r c.in-ok-head.ensures put,
+    let put = subst (λ (l : List Literal). (row : List Literal) → Capped out n row → Capped after r (placed_all literal_precedes (removal literal_precedes own l) row)) c.as_slice.ensures.value c.put_but-n.ensures.row in (
+      c.put_but-n.ensures.fits,
+      gather_on (premise_test (contents c.args.self.now).clauses c.args.v) premise_brings (pairs left ns) c.args.out.now c.args.start out n i (pairs (drop i left) (drop i ns)) c.loop-i.invariant.1 (get_or left i 0, get_or ns i 0) _ (pairs_more left ns i 0 0 c.loop-i-test.true (omega arith)) (held c.in_ok-head.head) after r c.in_ok-head.ensures put,
     )
 
 pub returns : goal.returns

@@ -9,12 +9,12 @@ use Rattle.book.proofs.state.Book.lowest_clause.Goals as goal
 
 pub returns-then-covers : goal.returns-then-covers
 returns-then-covers c =
-    lowest_here (contents c.args.self.now) c.args.k.now c.args.m.now c.loop-i.i _ c.index-clauses-i.result _ _ (drop_read c.as-slice-clauses.result.now c.loop-i.i c.index-clauses-i.result c.loop-i-test.true c.index-clauses-i.is) c.loop-i.invariant c.if-covers.ensures
+    lowest_here (contents c.args.self.now) c.args.k.now c.args.m.now c.loop-i.i _ c.index-clauses-i.result _ _ (drop_read c.as_slice-clauses.result.now c.loop-i.i c.index-clauses-i.result c.loop-i-test.true c.index-clauses-i.is) c.loop-i.invariant c.if-covers.ensures
 
 pub loop-i-preserved : goal.loop-i-preserved
 loop-i-preserved c =
-    lowest_on (contents c.args.self.now) c.args.k.now c.args.m.now c.loop-i.i _ c.index-clauses-i.result _ _ (drop_read c.as-slice-clauses.result.now c.loop-i.i c.index-clauses-i.result c.loop-i-test.true c.index-clauses-i.is) c.loop-i.invariant c.if-covers.ensures
+    lowest_on (contents c.args.self.now) c.args.k.now c.args.m.now c.loop-i.i _ c.index-clauses-i.result _ _ (drop_read c.as_slice-clauses.result.now c.loop-i.i c.index-clauses-i.result c.loop-i-test.true c.index-clauses-i.is) c.loop-i.invariant c.if-covers.ensures
 
 pub returns : goal.returns
 returns c =
-    sym (ap (λ (l : List Clause). lowest_clause (contents c.args.self.now) c.args.k.now c.args.m.now c.loop-i.i (map clause_of l)) (drop_all c.loop-i.i c.as-slice-clauses.result.now c.loop-i-test.false)) ∙ c.loop-i.invariant
+    sym (ap (λ (l : List Clause). lowest_clause (contents c.args.self.now) c.args.k.now c.args.m.now c.loop-i.i (map clause_of l)) (drop_all c.loop-i.i c.as_slice-clauses.result.now c.loop-i-test.false)) ∙ c.loop-i.invariant

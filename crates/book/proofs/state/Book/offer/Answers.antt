@@ -30,7 +30,7 @@ returns-in-Open-Under g c =
     let lent = c.args.scratch.now in
     let m = g.S.Sample.meaning c.args.sample.now in
     let is = sym c.kind.ensures ∙ c.in-Open-Under.is-1 in
-    let e = enter_inclusion c.role.result c.upper-role.result in
+    let e = enter_inclusion c.role.result c.upper_role.result in
     let d = done Under f (length lent) m R lent is e (contents c.enter_inclusion.new.self) c.enter_inclusion.result lent (cc) c.enter_inclusion.ensures.answer c.enter_inclusion.ensures.change refl in
     record { answer = d.answer; change = d.change; scratch = d.scratch; law = d.law }
 
@@ -52,7 +52,7 @@ returns-in-Open-Core g c =
     let lent = c.args.scratch.now in
     let m = g.S.Sample.meaning c.args.sample.now in
     let is = sym c.kind.ensures ∙ c.in-Open-Core.is-1 in
-    let d = refused Core f (length lent) m R lent is BookOpen c.step-too-early.result c.step-too-early.new.scratch c.step-too-early.ensures.answer (too_early f (length lent) m R Core (λ x. x) (ap is_closed c.in-Open-Core.is-0)) c.step-too-early.ensures.scratch in
+    let d = refused Core f (length lent) m R lent is BookOpen c.step_too_early.result c.step_too_early.new.scratch c.step_too_early.ensures.answer (too_early f (length lent) m R Core (λ x. x) (ap is_closed c.in-Open-Core.is-0)) c.step_too_early.ensures.scratch in
     record { answer = d.answer; change = d.change; scratch = d.scratch; law = d.law }
 
 pub returns-in-Open-Hyper : goal.returns-in-Open-Hyper
@@ -62,7 +62,7 @@ returns-in-Open-Hyper g c =
     let lent = c.args.scratch.now in
     let m = g.S.Sample.meaning c.args.sample.now in
     let is = sym c.kind.ensures ∙ c.in-Open-Hyper.is-1 in
-    let d = refused Hyper f (length lent) m R lent is BookOpen c.step-too-early-in-Open-Hyper.result c.step-too-early-in-Open-Hyper.new.scratch c.step-too-early-in-Open-Hyper.ensures.answer (too_early f (length lent) m R Hyper (λ x. x) (ap is_closed c.in-Open-Hyper.is-0)) c.step-too-early-in-Open-Hyper.ensures.scratch in
+    let d = refused Hyper f (length lent) m R lent is BookOpen c.step_too_early-in-Open-Hyper.result c.step_too_early-in-Open-Hyper.new.scratch c.step_too_early-in-Open-Hyper.ensures.answer (too_early f (length lent) m R Hyper (λ x. x) (ap is_closed c.in-Open-Hyper.is-0)) c.step_too_early-in-Open-Hyper.ensures.scratch in
     record { answer = d.answer; change = d.change; scratch = d.scratch; law = d.law }
 
 pub returns-in-Open-Pred : goal.returns-in-Open-Pred
@@ -72,7 +72,7 @@ returns-in-Open-Pred g c =
     let lent = c.args.scratch.now in
     let m = g.S.Sample.meaning c.args.sample.now in
     let is = sym c.kind.ensures ∙ c.in-Open-Pred.is-1 in
-    let d = refused Pred f (length lent) m R lent is BookOpen c.step-too-early-in-Open-Pred.result c.step-too-early-in-Open-Pred.new.scratch c.step-too-early-in-Open-Pred.ensures.answer (too_early f (length lent) m R Pred (λ x. x) (ap is_closed c.in-Open-Pred.is-0)) c.step-too-early-in-Open-Pred.ensures.scratch in
+    let d = refused Pred f (length lent) m R lent is BookOpen c.step_too_early-in-Open-Pred.result c.step_too_early-in-Open-Pred.new.scratch c.step_too_early-in-Open-Pred.ensures.answer (too_early f (length lent) m R Pred (λ x. x) (ap is_closed c.in-Open-Pred.is-0)) c.step_too_early-in-Open-Pred.ensures.scratch in
     record { answer = d.answer; change = d.change; scratch = d.scratch; law = d.law }
 
 pub returns-in-Open-Context : goal.returns-in-Open-Context
@@ -123,7 +123,7 @@ returns-in-Closed-Core g c =
     let lent = c.args.scratch.now in
     let m = g.S.Sample.meaning c.args.sample.now in
     let is = sym c.kind.ensures ∙ c.in-Closed-Core.is-1 in
-    let e = core c.context-number.result c.concept.result (length lent) in
+    let e = core c.context_number.result c.concept.result (length lent) in
     let d = done Core f (length lent) m R lent is e (contents c.core.new.self) c.core.result c.core.new.scratch (cc) c.core.ensures.answer c.core.ensures.change c.core.ensures.cleared in
     record { answer = d.answer; change = d.change; scratch = d.scratch; law = d.law }
 
@@ -134,7 +134,7 @@ returns-in-Closed-Hyper g c =
     let lent = c.args.scratch.now in
     let m = g.S.Sample.meaning c.args.sample.now in
     let is = sym c.kind.ensures ∙ c.in-Closed-Hyper.is-1 in
-    let e = hyper c.context-number-in-Closed-Hyper.result c.axiom-number.result c.as-slice.result.now (held c.claim.result.now) (length lent) in
+    let e = hyper c.context_number-in-Closed-Hyper.result c.axiom_number.result c.as_slice.result.now (held c.claim.result.now) (length lent) in
     let d = done Hyper f (length lent) m R lent is e (contents c.hyper.new.self) c.hyper.result c.hyper.new.scratch (cc) c.hyper.ensures.answer c.hyper.ensures.change c.hyper.ensures.cleared in
     record { answer = d.answer; change = d.change; scratch = d.scratch; law = d.law }
 
@@ -145,7 +145,7 @@ returns-in-Closed-Pred g c =
     let lent = c.args.scratch.now in
     let m = g.S.Sample.meaning c.args.sample.now in
     let is = sym c.kind.ensures ∙ c.in-Closed-Pred.is-1 in
-    let e = pred c.context-number-in-Closed-Pred.result c.first-clause.result c.role-in-Closed-Pred.result c.concept-in-Closed-Pred.result (held c.sides.result.now) c.far-clause.result (held c.claim-in-Closed-Pred.result.now) (length lent) in
+    let e = pred c.context_number-in-Closed-Pred.result c.first_clause.result c.role-in-Closed-Pred.result c.concept-in-Closed-Pred.result (held c.sides.result.now) c.far_clause.result (held c.claim-in-Closed-Pred.result.now) (length lent) in
     let d = done Pred f (length lent) m R lent is e (contents c.pred.new.self) c.pred.result c.pred.new.scratch (cc) c.pred.ensures.answer c.pred.ensures.change c.pred.ensures.cleared in
     record { answer = d.answer; change = d.change; scratch = d.scratch; law = d.law }
 
@@ -156,7 +156,7 @@ returns-in-Closed-Ask g c =
     let lent = c.args.scratch.now in
     let m = g.S.Sample.meaning c.args.sample.now in
     let is = sym c.kind.ensures ∙ c.in-Closed-Ask.is-1 in
-    let e = ask c.as-slice-in-Closed-Ask.result.now c.as-slice-in-Closed-Ask-2.result.now in
+    let e = ask c.as_slice-in-Closed-Ask.result.now c.as_slice-in-Closed-Ask-2.result.now in
     let d = done Ask f (length lent) m R lent is e R c.ask.result lent (cc) c.ask.ensures (sym (question_leaves R e (λ x. x) (check R e))) refl in
     record { answer = d.answer; change = d.change; scratch = d.scratch; law = d.law }
 
@@ -167,7 +167,7 @@ returns-in-Closed-Refute g c =
     let lent = c.args.scratch.now in
     let m = g.S.Sample.meaning c.args.sample.now in
     let is = sym c.kind.ensures ∙ c.in-Closed-Refute.is-1 in
-    let e = refute c.as-slice-in-Closed-Refute.result.now c.as-slice-in-Closed-Refute-2.result.now m in
+    let e = refute c.as_slice-in-Closed-Refute.result.now c.as_slice-in-Closed-Refute-2.result.now m in
     let d = done Refute f (length lent) m R lent is e R c.refute.result lent (cc) c.refute.ensures (sym (question_leaves R e (λ x. x) (check R e))) refl in
     record { answer = d.answer; change = d.change; scratch = d.scratch; law = d.law }
 

@@ -8,20 +8,20 @@ use Rattle.book.specs.Contents.{clause_of, contents, is_closed}
 use Rattle.calculus.proofs.Passing.{and_then_on, passes_yes}
 use Rattle.book.proofs.state.Book.ready.Goals as goal
 
-pub returns-then-used-lt-CLAUSE-LIMIT : goal.returns-then-used-lt-CLAUSE-LIMIT
-returns-then-used-lt-CLAUSE-LIMIT c =
+pub returns-then-used-lt-CLAUSE_LIMIT : goal.returns-then-used-lt-CLAUSE_LIMIT
+returns-then-used-lt-CLAUSE_LIMIT c =
     let b = c.args.self.now in
-    let n : length (contents b).clauses < 512 = omega (arith, length-map (held b.clauses) clause_of, c.len-used.ensures.value, c.if-used-lt-CLAUSE-LIMIT.true) in
+    let n : length (contents b).clauses < 512 = omega (arith, length-map (held b.clauses) clause_of, c.len-used.ensures.value, c.if-used-lt-CLAUSE_LIMIT.true) in
     sym
     (and_then_on (passes (is_closed b.phase) BookOpen) _ tt (passes_yes _ BookOpen (ap is_closed c.requires))
-    ∙ and_then_on (passes (ltb 110 c.args.scratch) (MemoryTooShort 111)) _ tt (passes_yes _ (MemoryTooShort 111) (lt-ltb _ _ (omega (arith, c.if-scratch-lt-SCRATCH-NEEDED.false))))
+    ∙ and_then_on (passes (ltb 110 c.args.scratch) (MemoryTooShort 111)) _ tt (passes_yes _ (MemoryTooShort 111) (lt-ltb _ _ (omega (arith, c.if-scratch-lt-SCRATCH_NEEDED.false))))
     ∙ passes_yes (ltb (length (contents b).clauses) 512) (NoPlaceFree 512) (lt-ltb _ _ n))
 
-pub returns-else-used-lt-CLAUSE-LIMIT : goal.returns-else-used-lt-CLAUSE-LIMIT
-returns-else-used-lt-CLAUSE-LIMIT c =
+pub returns-else-used-lt-CLAUSE_LIMIT : goal.returns-else-used-lt-CLAUSE_LIMIT
+returns-else-used-lt-CLAUSE_LIMIT c =
     let b = c.args.self.now in
-    let n : 512 ≤ length (contents b).clauses = omega (arith, length-map (held b.clauses) clause_of, c.len-used.ensures.value, c.if-used-lt-CLAUSE-LIMIT.false) in
+    let n : 512 ≤ length (contents b).clauses = omega (arith, length-map (held b.clauses) clause_of, c.len-used.ensures.value, c.if-used-lt-CLAUSE_LIMIT.false) in
     sym
     (and_then_on (passes (is_closed b.phase) BookOpen) _ tt (passes_yes _ BookOpen (ap is_closed c.requires))
-    ∙ and_then_on (passes (ltb 110 c.args.scratch) (MemoryTooShort 111)) _ tt (passes_yes _ (MemoryTooShort 111) (lt-ltb _ _ (omega (arith, c.if-scratch-lt-SCRATCH-NEEDED.false))))
+    ∙ and_then_on (passes (ltb 110 c.args.scratch) (MemoryTooShort 111)) _ tt (passes_yes _ (MemoryTooShort 111) (lt-ltb _ _ (omega (arith, c.if-scratch-lt-SCRATCH_NEEDED.false))))
     ∙ cond-false (ltb (length (contents b).clauses) 512) _ _ (le-ltb _ _ n))
