@@ -66,12 +66,14 @@ impl Book {
 
     // Which clause of a closed book shows the subsumption of k by m, if any.
     pub(crate) fn ask(&self, k: &[u8], m: &[u8]) -> Result<Answer, Refusal>
-        requires { self.now.phase ≡ Phase.Closed }
         ensures { result ≡ reply (contents self.now) (ask k.now m.now) }
     {
-        match self.lowest_clause(k, m) {
-            Some(n) => Ok(Answer::Shown(n)),
-            None => Ok(Answer::Unshown),
+        match self.phase {
+            Phase::Open => Err(Refusal::BookOpen),
+            Phase::Closed => match self.lowest_clause(k, m) {
+                Some(n) => Ok(Answer::Shown(n)),
+                None => Ok(Answer::Unshown),
+            },
         }
     }
 
@@ -82,13 +84,17 @@ impl Book {
         m: &[u8],
         sample: &S,
     ) -> Result<Answer, Refusal>
-        requires { self.now.phase ≡ Phase.Closed }
         ensures { result ≡ reply (contents self.now) (refute k.now m.now (S.meaning sample.now)) }
     {
-        judge(self.axioms.as_slice(), sample)?;
-        match lowest_contradiction(k, m, sample) {
-            Some(x) => Ok(Answer::Refuted(x)),
-            None => Err(Refusal::NoneContradicts),
+        match self.phase {
+            Phase::Open => Err(Refusal::BookOpen),
+            Phase::Closed => {
+                judge(self.axioms.as_slice(), sample)?;
+                match lowest_contradiction(k, m, sample) {
+                    Some(x) => Ok(Answer::Refuted(x)),
+                    None => Err(Refusal::NoneContradicts),
+                }
+            }
         }
     }
 }

@@ -19,22 +19,26 @@ use terms::{Literal, Refusal, Short};
 const SCRATCH_NEEDED: usize = 111;
 
 impl Book {
-    // Whether a step of a closed book can be looked at: the scratch is long enough, and a place for a clause is free.
+    // Whether a step can be looked at: the book is closed, the scratch is long enough, and a place for a clause is free.
     pub(crate) fn ready(&self, scratch: usize) -> Result<(), Refusal>
-        requires { self.now.phase ≡ Phase.Closed }
         ensures { result ≡ ready (contents self.now) scratch }
     {
-        let used = self.clauses.len();
-        if scratch < SCRATCH_NEEDED {
-            Err(Refusal::MemoryTooShort {
-                needed: SCRATCH_NEEDED,
-            })
-        } else if used < CLAUSE_LIMIT {
-            Ok(())
-        } else {
-            Err(Refusal::NoPlaceFree {
-                limit: CLAUSE_LIMIT,
-            })
+        match self.phase {
+            Phase::Open => Err(Refusal::BookOpen),
+            Phase::Closed => {
+                let used = self.clauses.len();
+                if scratch < SCRATCH_NEEDED {
+                    Err(Refusal::MemoryTooShort {
+                        needed: SCRATCH_NEEDED,
+                    })
+                } else if used < CLAUSE_LIMIT {
+                    Ok(())
+                } else {
+                    Err(Refusal::NoPlaceFree {
+                        limit: CLAUSE_LIMIT,
+                    })
+                }
+            }
         }
     }
 

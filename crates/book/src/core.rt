@@ -7,7 +7,6 @@ ghost use Rattle.book.specs.Contents.{contents};
 ghost use Rattle.calculus.specs.Events.{core};
 ghost use Rattle.calculus.specs.Replies.{after, reply};
 
-use crate::clauses::Phase;
 use crate::state::Book;
 use calculus::Answer;
 use forms::limits::HEAD_LIMIT;
@@ -16,7 +15,6 @@ use terms::{Literal, Refusal, Short};
 
 impl Book {
     fn check_core(&self, v: u8, a: u8, scratch: usize) -> Result<(), Refusal>
-        requires { self.now.phase ≡ Phase.Closed }
         ensures { result ≡ core_check (contents self.now) scratch v a }
     {
         self.ready(scratch)?;
@@ -32,7 +30,6 @@ impl Book {
 
     // The core step: the clause of v whose head is the concept a alone.
     pub(crate) fn core(&mut self, v: u8, a: u8, scratch: &mut [Literal]) -> Result<Answer, Refusal>
-        requires { self.old.phase ≡ Phase.Closed }
         ensures answer { result ≡ reply (contents self.old) (core v a (length scratch.old)) }
         ensures change { contents self.new ≡ after (contents self.old) (core v a (length scratch.old)) }
         ensures cleared { scratch.new ≡ replicate (length scratch.old) (Concept 0) }

@@ -11,7 +11,6 @@ ghost use Rattle.calculus.specs.Replies.{after, reply};
 ghost use Rattle.book.specs.Views.{RowIn};
 
 use crate::checks::{is_claimed, is_count};
-use crate::clauses::Phase;
 use crate::rows::{put_all, put_but};
 use crate::state::Book;
 use calculus::Answer;
@@ -66,7 +65,6 @@ impl Book {
         claim: &[Literal],
         scratch: &mut [Literal],
     ) -> Result<(), Refusal>
-        requires { self.now.phase ≡ Phase.Closed }
         ensures { result ≡ hyper_check (contents self.now) (length scratch.old) v x premises.now claim.now }
     {
         self.ready(scratch.len())?;
@@ -85,7 +83,6 @@ impl Book {
         claim: &Short<Literal, HEAD_LIMIT>,
         scratch: &mut [Literal],
     ) -> Result<Answer, Refusal>
-        requires { self.old.phase ≡ Phase.Closed }
         ensures answer { result ≡ reply (contents self.old) (hyper v x premises.now (held claim.now) (length scratch.old)) }
         ensures change { contents self.new ≡ after (contents self.old) (hyper v x premises.now (held claim.now) (length scratch.old)) }
         ensures cleared { scratch.new ≡ replicate (length scratch.old) (Concept 0) }

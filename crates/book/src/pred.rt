@@ -8,11 +8,11 @@ ghost use Rattle.terms.specs.declared.literals.Literal.TheVariants.{Concept};
 ghost use Rattle.calculus.specs.Events.{pred};
 ghost use Rattle.calculus.specs.Fronts.{Capped};
 ghost use Rattle.calculus.specs.Replies.{after, reply};
-ghost use Rattle.forms.specs.Limits.{list_limit};
+ghost use Rattle.calculus.specs.Limits.{side_limit};
 ghost use Rattle.book.specs.Views.{RowIn, seen};
 
 use crate::checks::is_claimed;
-use crate::clauses::{Clause, Phase};
+use crate::clauses::Clause;
 use crate::rows::{put_but, put_capped};
 use crate::state::Book;
 use calculus::Answer;
@@ -135,7 +135,7 @@ impl Book {
         out: &mut [Literal],
         start: usize,
     ) -> Result<usize, Refusal>
-        requires few { length sides.now ≤ list_limit }
+        requires few { length sides.now ≤ side_limit }
         requires fits { start ≤ length out.old }
         ensures { (row : List Literal) → Capped out.old start row → RowIn out.new result (far_row (contents self.now) e.code a sides.now (clause_of far.now) row) }
     {
@@ -163,7 +163,6 @@ impl Book {
         claim: &[Literal],
         scratch: &mut [Literal],
     ) -> Result<(), Refusal>
-        requires { self.now.phase ≡ Phase.Closed }
         ensures { result ≡ pred_check (contents self.now) (length scratch.old) v p e a (held sides.now) q claim.now }
     {
         let sides = sides.as_slice();
@@ -187,7 +186,6 @@ impl Book {
         claim: &Short<Literal, HEAD_LIMIT>,
         scratch: &mut [Literal],
     ) -> Result<Answer, Refusal>
-        requires { self.old.phase ≡ Phase.Closed }
         ensures answer { result ≡ reply (contents self.old) (pred v p e a (held sides.now) q (held claim.now) (length scratch.old)) }
         ensures change { contents self.new ≡ after (contents self.old) (pred v p e a (held sides.now) q (held claim.now) (length scratch.old)) }
         ensures cleared { scratch.new ≡ replicate (length scratch.old) (Concept 0) }
@@ -200,7 +198,7 @@ impl Book {
 
 // The concepts that the core of the far context is to be.
 fn names_of_core(a: u8, sides: &[Side]) -> Short<u8, NAME_LIMIT>
-    requires { length sides.now ≤ list_limit }
+    requires { length sides.now ≤ side_limit }
     ensures { held result ≡ core_named a sides.now }
 {
     let mut names = Short::new(0);

@@ -1,6 +1,10 @@
--- The limit that only a book has; the others are those of its forms.
+-- The limits that only the steps of a book have; the others are those of its forms.
 use Rattle.std.specs.Prelude.{ℕ}
 
 -- the literals of scratch that a step is to be lent
 abbrev pub scratch_needed : ℕ
 scratch_needed = 111
+
+-- the most sides of a pred step
+abbrev pub side_limit : ℕ
+side_limit = 8

@@ -1,8 +1,9 @@
 // The head that two premises resolve to.
-ghost use Rattle.std.specs.Prelude.{◌≡◌, MatchResult};
+ghost use Rattle.std.specs.Prelude.{◌≡◌, ◌<◌, length, MatchResult};
 ghost use Rattle.terms.specs.Lists.{removal, union};
 ghost use Rattle.terms.specs.Literals.{literal_precedes};
 ghost use Rattle.terms.specs.Shorts.{held};
+ghost use Rattle.terms.specs.declared.refusals.Refusal.TheVariants.{HeadTooLong};
 ghost use Rattle.tour.specs.Heads.{HeadOrRefusal};
 
 use terms::lists::{join, without};
@@ -19,7 +20,7 @@ pub type Head = Short<Literal, HEAD_LIMIT>;
 
 /// The head of these literals, which are to be at most 12.
 pub fn head_of(literals: &[Literal]) -> Result<Head, Refusal>
-    ensures { HeadOrRefusal result literals.now }
+    ensures { MatchResult result (λ head. held head ≡ literals.now) (λ e. (e ≡ HeadTooLong 12) × (12 < length literals.now)) }
 {
     match Short::from_slice(literals, Literal::Concept(0)) {
         Some(head) => Ok(head),
@@ -47,7 +48,7 @@ fn join_heads(first: &Head, second: &Head) -> Result<Head, Refusal>
 
 /// The head that two premises resolve to: each premise's head without its own literal, joined.
 pub fn resolvent(first: &Head, own: Literal, second: &Head, other: Literal) -> Result<Head, Refusal>
-    ensures { HeadOrRefusal result (union literal_precedes (removal literal_precedes own (held first.now)) (removal literal_precedes other (held second.now))) }
+    ensures { MatchResult result (λ head. held head ≡ union literal_precedes (removal literal_precedes own (held first.now)) (removal literal_precedes other (held second.now))) (λ e. (e ≡ HeadTooLong 12) × (12 < length (union literal_precedes (removal literal_precedes own (held first.now)) (removal literal_precedes other (held second.now))))) }
 {
     let left = head_without(first, own)?;
     let right = head_without(second, other)?;

@@ -13,7 +13,7 @@ use models::{Axiom, ConceptAxiom, Entry, Fact, List};
 use terms::{Literal, Refusal, Role};
 
 // The most entries of the tour's samples.
-pub const MEMORY: usize = 4;
+const MEMORY: usize = 4;
 
 // The chart of the tour: what is in 1 has a pair of 0 into 2; what is in 2 has its pairs of 1 into 3 alone.
 fn chart() -> Result<[Axiom; 2], Refusal>
@@ -25,14 +25,14 @@ fn chart() -> Result<[Axiom; 2], Refusal>
 }
 
 // The entry that the element, which is to be below 64 (2), is in the concept.
-pub fn element(concept: u8, element: u8) -> Result<Entry, Refusal>
+fn element(concept: u8, element: u8) -> Result<Entry, Refusal>
     ensures { MatchResult result (λ e. e.fact ≡ In concept element) (λ e. (fact_in_range (In concept element) ≡ false) × (e ≡ OutOfRange 0)) }
 {
     Entry::new(Fact::In { concept, element })
 }
 
 // The entry that the role name, which is to be below 32, links two elements, which are to be below 64 (2).
-pub fn link(role: u8, from: u8, to: u8) -> Result<Entry, Refusal>
+fn link(role: u8, from: u8, to: u8) -> Result<Entry, Refusal>
     ensures { MatchResult result (λ e. e.fact ≡ Link role from to) (λ e. (fact_in_range (Link role from to) ≡ false) × (e ≡ OutOfRange 0)) }
 {
     Entry::new(Fact::Link { role, from, to })
@@ -56,7 +56,7 @@ pub fn show_samples(rt: &impl Print) -> anyhow::Result<()> {
 }
 
 // Adds the entries to the list one by one, up to the first that is refused.
-pub fn add_all(list: &mut List<'_>, entries: &[Entry]) -> Result<(), Refusal>
+fn add_all(list: &mut List<'_>, entries: &[Entry]) -> Result<(), Refusal>
     ensures answer { result ≡ unless_refused (fill_refusal (contents list.old) entries.now) }
     ensures change { contents list.new ≡ filled (contents list.old) entries.now }
     ensures lent { list.new.entries.ghost_name ≡ list.old.entries.ghost_name }

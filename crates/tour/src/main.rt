@@ -1,5 +1,5 @@
-//! A tour of Hevtsuro's library: what role inclusions make each role reach, the head that two premises resolve to, a sample that is
-//! judged against a chart, and a derivation that a book replays.
+//! A tour of Hevtsuro's library: what role inclusions make each role reach, the head that two premises resolve to, and a sample that is
+//! judged against a chart.
 #![tactic(auto)]
 
 ghost use Rattle.std.specs.Prelude.{◌≡◌, ◌≤◌, false, List, is_ok, MatchResult};
@@ -11,12 +11,10 @@ ghost use Rattle.tour.specs.Entering.{are_codes, included};
 
 mod heads;
 mod judging;
-mod replaying;
 mod words;
 
 use heads::{head_of, resolvent};
 use judging::show_samples;
-use replaying::show_derivation;
 use terms::{Literal, Reach, Refusal, Role};
 use words::{print_list, reading};
 
@@ -27,7 +25,7 @@ fn main(rt: HostRuntime) -> anyhow::Result<()> {
     run(&rt)
 }
 
-// Prints the four parts of the tour, each under its heading.
+// Prints the three parts of the tour, each under its heading.
 fn run(rt: &impl Print) -> anyhow::Result<()> {
     println!(rt; "1. What roles reach")?;
     show_roles(rt)?;
@@ -36,10 +34,7 @@ fn run(rt: &impl Print) -> anyhow::Result<()> {
     show_resolution(rt)?;
     println!(rt; "")?;
     println!(rt; "3. A sample judged")?;
-    show_samples(rt)?;
-    println!(rt; "")?;
-    println!(rt; "4. A derivation replayed")?;
-    show_derivation(rt)
+    show_samples(rt)
 }
 
 // Prints the verbs of the role codes, enters two inclusions, and prints what they make the roles reach.

@@ -15,14 +15,14 @@ use Rattle.tour.proofs.heads.head_without.Goals as goal
 rest_fits : (x : Literal) (xs : List Literal) (d : Refusal) → length xs ≤ 12 → Err d ≡ room_for (removal literal_precedes x xs) 12 → ⊥
 rest_fits x xs d few e = omega (arith, removal_length literal_precedes x xs, room_err (removal literal_precedes x xs) 12 d e)
 
-pub returns-in-err-n : goal.returns-in-err-n
-returns-in-err-n c = absurd (rest_fits _ _ _ c.as-slice.ensures.few c.in-err-n.ensures.answer)
+pub returns-in_err-n : goal.returns-in_err-n
+returns-in_err-n c = absurd (rest_fits _ _ _ c.as_slice.ensures.few c.in_err-n.ensures.answer)
 
 pub returns : goal.returns
 returns c =
     let x = c.args.literal in
-    let xs = c.as-slice.result.now in
-    let cut = cut_front (removal literal_precedes x xs) (replicate 12 (Concept 0)) c.without.new.out c.in-ok-n.n c.in-ok-n.ensures.answer c.in-ok-n.ensures.memory in
-    MatchResult-weaker c.head-of.result c.head-of.ensures
-    (λ _ h. h ∙ cut ∙ ap (removal literal_precedes x) c.as-slice.ensures.value)
+    let xs = c.as_slice.result.now in
+    let cut = cut_front (removal literal_precedes x xs) (replicate 12 (Concept 0)) c.without.new.out c.in_ok-n.n c.in_ok-n.ensures.answer c.in_ok-n.ensures.memory in
+    MatchResult-weaker c.head_of.result c.head_of.ensures
+    (λ _ h. h ∙ cut ∙ ap (removal literal_precedes x) c.as_slice.ensures.value)
     (λ _ h. omega (arith, h.1, ap length cut, removal_length literal_precedes x xs))

@@ -16,11 +16,11 @@ use Rattle.tour.proofs.heads.join_heads.Goals as goal
 both_fit : (xs ys : List Literal) (d : Refusal) → length xs ≤ 12 → length ys ≤ 12 → Err d ≡ room_for (union literal_precedes xs ys) 24 → ⊥
 both_fit xs ys d p q e = omega (arith, union_length literal_precedes xs ys, room_err (union literal_precedes xs ys) 24 d e)
 
-pub returns-in-err-n : goal.returns-in-err-n
-returns-in-err-n c = absurd (both_fit _ _ _ c.as-slice.ensures.few c.as-slice-2.ensures.few c.in-err-n.ensures.answer)
+pub returns-in_err-n : goal.returns-in_err-n
+returns-in_err-n c = absurd (both_fit _ _ _ c.as_slice.ensures.few c.as_slice-2.ensures.few c.in_err-n.ensures.answer)
 
 pub returns : goal.returns
 returns c =
-    let cut = cut_front _ (replicate 24 (Concept 0)) _ _ c.in-ok-n.ensures.answer c.in-ok-n.ensures.memory in
-    let whole : take (c.in-ok-n.n - 0) c.join.new.out ≡ union literal_precedes (held c.args.first.now) (held c.args.second.now) = cc in
-    subst (HeadOrRefusal c.head-of.result) whole c.head-of.ensures
+    let cut = cut_front _ (replicate 24 (Concept 0)) _ _ c.in_ok-n.ensures.answer c.in_ok-n.ensures.memory in
+    let whole : take (c.in_ok-n.n - 0) c.join.new.out ≡ union literal_precedes (held c.args.first.now) (held c.args.second.now) = cc in
+    subst (HeadOrRefusal c.head_of.result) whole c.head_of.ensures

@@ -40,17 +40,17 @@ stops k k' e left rest d first last cut p q f g = (
       ∙ g,
 )
 
-pub returns-in-err-add : goal.returns-in-err-add
-returns-in-err-add c =
-    let told = c.in-err-add.ensures in
+pub returns-in_err-add : goal.returns-in_err-add
+returns-in_err-add c =
+    let told = c.in_err-add.ensures in
     let cut = from_item c.args.entries.now c.loop-item.item-index c.item-item.result (omega arith) c.item-item.is in
     let at = stops _ _ _ _ _ _ _ _ cut (one_refused _ _ told.answer) told.change c.loop-item.invariant.0 c.loop-item.invariant.1 in
-    let p = err_from_is_err_and c.from-residual.result c.from-residual.ensures.1 in
+    let p = err_from_is_err_and c.from_residual.result c.from_residual.ensures.1 in
     record { answer = p.1 ∙ ap Err p.2 ∙ ap unless_refused at.0; change = at.1; lent = told.lent ∙ c.loop-item.invariant.2 }
 
 pub loop-item-preserved : goal.loop-item-preserved
 loop-item-preserved c =
-    let told = c.in-ok-add.ensures in
+    let told = c.in_ok-add.ensures in
     let cut = from_item c.args.entries.now c.loop-item.item-index c.item-item.result (omega arith) c.item-item.is in
     let at = goes_on _ _ _ _ _ _ _ cut (none_refused _ _ told.answer) told.change c.loop-item.invariant.0 c.loop-item.invariant.1 in
     (at.0, at.1, told.lent ∙ c.loop-item.invariant.2)

@@ -9,5 +9,5 @@ returns-in-4 c = let is : 4 ≡ c.args.role.code = omega arith in ap verb is
 pub returns-in-5 : goal.returns-in-5
 returns-in-5 c = let is : 5 ≡ c.args.role.code = omega arith in ap verb is
 
-pub returns-in-default : goal.returns-in-default
-returns-in-default c = let past : length verbs ≤ c.args.role.code = omega arith in sym (get_or_past verbs c.args.role.code (codes "has another role to") past)
+pub returns-in_default : goal.returns-in_default
+returns-in_default c = let past : length verbs ≤ c.args.role.code = omega arith in sym (get_or_past verbs c.args.role.code (codes "has another role to") past)

@@ -24,7 +24,7 @@ returns-then-push c =
     let e : Event = enter_axiom (held c.args.implied.left) (held c.args.implied.right) in
     let old = held c.args.self.now.axioms in
     let pushed = c.if-push.ensures in
-    let fits : check R e ≡ Ok tt = room_yes sentence_of old 256 _ BookClosed (ap (λ p. not (is_closed p)) c.requires) pushed.answer in
+    let fits : check R e ≡ Ok tt = room_yes sentence_of old 256 _ BookClosed (ap (λ p. not (is_closed p)) c.in-Open.is) pushed.answer in
     let more : map sentence_of (held c.push.new.self) ≡ map sentence_of old ++ sentence_of (Implies c.args.implied) ∷ [] = ap (map sentence_of) pushed.change ∙ map_push sentence_of old (Implies c.args.implied) in
     let now = granted_after R e fits in
     record {
@@ -38,7 +38,7 @@ returns-else-push c =
     let e : Event = enter_axiom (held c.args.implied.left) (held c.args.implied.right) in
     let old = held c.args.self.now.axioms in
     let pushed = c.if-push.ensures in
-    let full : check R e ≡ Err (NoPlaceFree 256) = room_no sentence_of old 256 _ BookClosed (ap (λ p. not (is_closed p)) c.requires) pushed.answer in
+    let full : check R e ≡ Err (NoPlaceFree 256) = room_no sentence_of old 256 _ BookClosed (ap (λ p. not (is_closed p)) c.in-Open.is) pushed.answer in
     let kept : map sentence_of (held c.push.new.self) ≡ map sentence_of old = ap (map sentence_of) pushed.change in
     let now = refused_after R e (NoPlaceFree 256) full in
     record {

@@ -16,7 +16,7 @@ returns-then-push c =
     let e : Event = open_context (held c.args.concepts.now) in
     let old = held c.args.self.now.contexts in
     let pushed = c.if-push.ensures in
-    let fits : check R e ≡ Ok tt = room_yes (λ (s : Short ℕ 8). held s) old 64 _ BookOpen (ap is_closed c.requires) pushed.answer in
+    let fits : check R e ≡ Ok tt = room_yes (λ (s : Short ℕ 8). held s) old 64 _ BookOpen (ap is_closed c.in-Closed.is) pushed.answer in
     let more : map held (held c.push.new.self) ≡ map held old ++ held c.args.concepts.now ∷ [] = ap (map held) pushed.change ∙ map_push held old c.args.concepts.now in
     let now = granted_after R e fits in
     record {
@@ -30,7 +30,7 @@ returns-else-push c =
     let e : Event = open_context (held c.args.concepts.now) in
     let old = held c.args.self.now.contexts in
     let pushed = c.if-push.ensures in
-    let full : check R e ≡ Err (NoPlaceFree 64) = room_no (λ (s : Short ℕ 8). held s) old 64 _ BookOpen (ap is_closed c.requires) pushed.answer in
+    let full : check R e ≡ Err (NoPlaceFree 64) = room_no (λ (s : Short ℕ 8). held s) old 64 _ BookOpen (ap is_closed c.in-Closed.is) pushed.answer in
     let kept : map held (held c.push.new.self) ≡ map held old = ap (map held) pushed.change in
     let now : R ≡ after R e = refused_after R e (NoPlaceFree 64) full in
     let held_still : record R { contexts = map held (held c.push.new.self) } ≡ R = ap (λ (k : List (List ℕ)). record R { contexts = k }) kept in

@@ -13,7 +13,7 @@ returns-then-used-lt-CLAUSE_LIMIT c =
     let b = c.args.self.now in
     let n : length (contents b).clauses < 512 = omega (arith, length-map (held b.clauses) clause_of, c.len-used.ensures.value, c.if-used-lt-CLAUSE_LIMIT.true) in
     sym
-    (and_then_on (passes (is_closed b.phase) BookOpen) _ tt (passes_yes _ BookOpen (ap is_closed c.requires))
+    (and_then_on (passes (is_closed b.phase) BookOpen) _ tt (passes_yes _ BookOpen (ap is_closed c.in-Closed.is))
     ∙ and_then_on (passes (ltb 110 c.args.scratch) (MemoryTooShort 111)) _ tt (passes_yes _ (MemoryTooShort 111) (lt-ltb _ _ (omega (arith, c.if-scratch-lt-SCRATCH_NEEDED.false))))
     ∙ passes_yes (ltb (length (contents b).clauses) 512) (NoPlaceFree 512) (lt-ltb _ _ n))
 
@@ -22,6 +22,6 @@ returns-else-used-lt-CLAUSE_LIMIT c =
     let b = c.args.self.now in
     let n : 512 ≤ length (contents b).clauses = omega (arith, length-map (held b.clauses) clause_of, c.len-used.ensures.value, c.if-used-lt-CLAUSE_LIMIT.false) in
     sym
-    (and_then_on (passes (is_closed b.phase) BookOpen) _ tt (passes_yes _ BookOpen (ap is_closed c.requires))
+    (and_then_on (passes (is_closed b.phase) BookOpen) _ tt (passes_yes _ BookOpen (ap is_closed c.in-Closed.is))
     ∙ and_then_on (passes (ltb 110 c.args.scratch) (MemoryTooShort 111)) _ tt (passes_yes _ (MemoryTooShort 111) (lt-ltb _ _ (omega (arith, c.if-scratch-lt-SCRATCH_NEEDED.false))))
     ∙ cond-false (ltb (length (contents b).clauses) 512) _ _ (le-ltb _ _ n))

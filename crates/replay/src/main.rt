@@ -1,4 +1,6 @@
-// A derivation replayed by a book, and a sample that refutes what it does not show.
+//! Replays a small derivation in a book, asks what it shows, and refutes by a sample what it does not.
+#![tactic(auto)]
+
 ghost use Rattle.std.specs.Prelude.{◌≡◌};
 ghost use Rattle.models.specs.Listed.{list_meaning};
 ghost use Rattle.models.specs.Listed as listed;
@@ -7,28 +9,49 @@ ghost use Rattle.calculus.specs.Replies.{after};
 ghost use Rattle.book.specs.Contents.{contents};
 ghost use Rattle.book.specs.Offers.{call_of};
 
-use crate::judging::{MEMORY, add_all, element, link};
 use book::Book;
 use forms::{Form, LiteralNumbers};
-use models::List;
+use models::{Entry, Fact, List};
 use terms::Literal;
 
 // The literals that a step is to be lent.
 const SCRATCH: usize = 111;
 
-/// Prints the calls of a session and their answers: a chart, a derivation from it, questions, and a sample of two elements.
-pub fn show_derivation(rt: &impl Print) -> anyhow::Result<()> {
+// The most entries of the sample.
+const MEMORY: usize = 4;
+
+fn main(rt: HostRuntime) -> anyhow::Result<()> {
+    run(&rt)
+}
+
+// Prints the calls of a session and their answers: a chart, a derivation from it, questions, and a sample of two elements.
+fn run(rt: &impl Print) -> anyhow::Result<()> {
     let mut book = Book::new();
-    let mut memory = [element(0, 0)?; MEMORY];
+    let facts = [
+        Entry::new(Fact::In {
+            concept: 1,
+            element: 0,
+        })?,
+        Entry::new(Fact::In {
+            concept: 3,
+            element: 0,
+        })?,
+        Entry::new(Fact::In {
+            concept: 2,
+            element: 1,
+        })?,
+        Entry::new(Fact::Link {
+            role: 0,
+            from: 0,
+            to: 1,
+        })?,
+    ];
+    let mut memory = [facts[0]; MEMORY];
     let mut list = List::new(&mut memory[..]);
     list.start(2)?;
-    let facts = [
-        element(1, 0)?,
-        element(3, 0)?,
-        element(2, 1)?,
-        link(0, 0, 1)?,
-    ];
-    add_all(&mut list, &facts)?;
+    for fact in facts {
+        list.add(fact)?;
+    }
     enter_chart(rt, &mut book, &list)?;
     enter_steps(rt, &mut book, &list)?;
     ask_both(rt, &mut book, &list)
