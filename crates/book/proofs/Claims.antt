@@ -6,7 +6,7 @@ use Rattle.terms.specs.Literals.{literal_precedes}
 use Rattle.terms.specs.declared.literals.Literal.{Literal}
 use Rattle.terms.specs.declared.refusals.Refusal.{Refusal}
 use Rattle.terms.specs.declared.refusals.Refusal.TheVariants.{HeadTooLong}
-use Rattle.calculus.specs.Checks.{and_then, claimed, no_difference, passes}
+use Rattle.calculus.specs.Checks.{and_then, claimed, no_difference}
 use Rattle.calculus.specs.Fronts.{Capped, first_apart}
 use Rattle.forms.specs.Limits.{head_limit}
 

@@ -1,5 +1,5 @@
 -- What stands in a list of the book stands in its register. Assumes nothing.
-use Rattle.std.proofs.Common.{◌≡◌, ℕ, zero, suc, List, [], ◌∷◌, map, Some, None, Ok, Err, Option, Result, sym, refl, ap, ◌∙◌, arith}
+use Rattle.std.proofs.Common.{◌≡◌, ℕ, zero, suc, List, [], ◌∷◌, map, Some, None, Ok, Err, refl, ap, arith}
 use Rattle.std.specs.List.{slice_get}
 use Rattle.terms.specs.declared.refusals.Refusal.{Refusal}
 use Rattle.calculus.specs.Checks.{required}

@@ -1,7 +1,7 @@
 -- One item put into a row in the front of lent room, as the loop does it. Assumes nothing.
-use Rattle.std.proofs.Common.{◌≡◌, ℕ, zero, suc, ◌+◌, ◌-◌, ◌<◌, ◌≤◌, Bool, true, false, cond, List, [], ◌∷◌, ◌++◌, length, get_or, take, drop, set, Some, None, Option, sym, refl, ap, ◌∙◌, subst, arith}
-use Rattle.std.proofs.lemmas.List.{append_assoc, at_drop_all, at_drop_more, drop_all, drop-set-lt, get_or-take, length-take-le, take-append-drop, take_more, take_more_set, take-take}
-use Rattle.std.proofs.lemmas.Bool.{cond-true, cond-false, and_from, and_left, not_from_false}
+use Rattle.std.proofs.Common.{◌≡◌, ℕ, zero, suc, ◌+◌, ◌<◌, ◌≤◌, Bool, true, false, List, [], ◌∷◌, ◌++◌, length, get_or, take, drop, set, Some, None, Option, sym, refl, ap, ◌∙◌, arith}
+use Rattle.std.proofs.lemmas.List.{append_assoc, drop_all, drop-set-lt, get_or-take, length-take-le, take-append-drop, take_more, take_more_set, take-take}
+use Rattle.std.proofs.lemmas.Bool.{cond-true, cond-false}
 use Rattle.terms.specs.Lists.{alike}
 use Rattle.calculus.specs.Fronts.{first_apart, placed}
 use Rattle.terms.proofs.Turns.{drop_read}

@@ -1,20 +1,19 @@
 -- A core or hyper step passes its checks exactly when the rule yields its claim. Assumes nothing.
-use Rattle.std.proofs.Common.{◌≡◌, ℕ, ◌<◌, ◌≤◌, Bool, true, eqb, ltb, ◌⊎◌, ◌↔◌, List, [], ◌∷◌, length, Some, None, Ok, Err, Result, sym, refl, ap, ◌∙◌, subst, inl, inr, ⊎_elim, arith}
+use Rattle.std.proofs.Common.{◌≡◌, ℕ, ◌≤◌, true, eqb, ltb, ◌⊎◌, ◌↔◌, List, [], ◌∷◌, length, Ok, sym, refl, ap, ◌∙◌, subst, inl, inr, ⊎_elim, arith}
 use Rattle.std.proofs.lemmas.Bool.{eq-eqb, eqb-true}
 use Rattle.std.proofs.lemmas.Bool.Decides.{nat_tests}
 use Rattle.std.specs.List.{slice_get}
-use Rattle.terms.specs.Lists.{◌∈◌, TotalOrder, member, removal, rising}
+use Rattle.terms.specs.Lists.{◌∈◌, TotalOrder, member, rising}
 use Rattle.terms.specs.Literals.{literal_precedes}
 use Rattle.terms.specs.declared.literals.Literal.{Literal}
 use Rattle.terms.specs.declared.literals.Literal.TheVariants.{Concept}
-use Rattle.terms.specs.declared.refusals.Refusal.{Refusal}
 use Rattle.terms.specs.declared.refusals.Refusal.TheVariants.{ContextNotOpened, CoreDiffers, NoConceptAxiom, PremisesMiscounted}
 use Rattle.terms.specs.Positions.{literal_order}
 use Rattle.terms.proofs.Sets.{member_means, removal_means, rising_same}
-use Rattle.calculus.specs.Checks.{and_then, claimed, core_check, core_of, gathered, hyper_check, hyper_row, passes, premise_brings, premise_test, ready, required, sides_of}
+use Rattle.calculus.specs.Checks.{core_check, core_of, gathered, hyper_check, hyper_row, passes, premise_brings, premise_test, ready, required, sides_of}
 use Rattle.calculus.specs.Fronts.{placed_all}
 use Rattle.forms.specs.Limits.{head_limit}
-use Rattle.calculus.specs.Register.{Clause, Core, Hyper, Premise, Ready, Register, Stands, pairs}
+use Rattle.calculus.specs.Register.{Core, Hyper, Premise, Ready, Register, pairs}
 use Rattle.calculus.proofs.Passing.{and_then_ok, and_then_on, claimed_ok, claimed_yes, passes_ok, passes_yes, premise_ok, premise_yes, ready_ok, ready_yes, required_ok, sides_ok}
 use Rattle.calculus.proofs.Placed.{placed_all_new, placed_all_only, rising_placed_all}
 use Rattle.calculus.proofs.Walks.{walk_each, walk_has, walk_out, walk_rises}

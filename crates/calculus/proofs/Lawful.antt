@@ -1,19 +1,19 @@
 -- The law holds of every past of every book. Assumes nothing.
-use Rattle.std.proofs.Common.{◌≡◌, ℕ, ◌<◌, true, false, ◌⊎◌, ◌↔◌, List, [], ◌∷◌, map, None, Ok, Result, sym, refl, ap, ◌∙◌, subst, inl, inr}
+use Rattle.std.proofs.Common.{◌≡◌, ℕ, true, ◌↔◌, List, [], ◌∷◌, map, None, Ok, Result, sym, refl, ap, ◌∙◌, subst, inl, inr}
 use mathlib.Core.Logic.{∥∥₁_elim}
 use Rattle.std.proofs.lemmas.Bool.{true≢false}
 use Rattle.terms.specs.Lists.{◌∈◌}
 use Rattle.terms.specs.declared.literals.Literal.{Literal}
 use Rattle.terms.specs.declared.literals.Literal.TheVariants.{Concept}
 use Rattle.terms.specs.declared.refusals.Refusal.{Refusal}
-use Rattle.models.specs.Meanings.{Meaning, fault_of, interpretation, tests_of}
-use Rattle.models.specs.Semantics.{Contradicts, Interpretation, IsIn, LowestContradiction, Models, Sentence, Subsumes, Tests, of_tests}
+use Rattle.models.specs.Meanings.{Meaning, fault_of, interpretation}
+use Rattle.models.specs.Semantics.{Contradicts, Interpretation, IsIn, LowestContradiction, Models, Subsumes, of_tests}
 use Rattle.calculus.specs.Events.{Event, Takes, Well, ask, close, core, enter_axiom, enter_inclusion, grown, hyper, open_context, pred, refute}
 use Rattle.calculus.specs.Law.{EveryPast, Gives, Had, KeepsLaw, Law, Moment, Past, Said, before, called, left, now, taken}
 use Rattle.calculus.specs.Register.{Register}
 use Rattle.calculus.specs.Replies.{after, reply}
 use Rattle.calculus.specs.declared.answers.Answer.{Answer}
-use Rattle.calculus.specs.declared.answers.Answer.TheVariants.{Closed, Entered, Refuted, Shown}
+use Rattle.calculus.specs.declared.answers.Answer.TheVariants.{Refuted, Shown}
 use Rattle.calculus.proofs.Pasts.{at_moment, had_gives, no_other, same_then}
 use Rattle.calculus.proofs.Replied.{closed_reply, entered_reply}
 use Rattle.calculus.proofs.Shown.{refuted_reply, shown_reply, strengthened}

@@ -1,5 +1,5 @@
 -- When chains of checks pass. Assumes nothing.
-use Rattle.std.proofs.Common.{◌≡◌, ℕ, ◌<◌, ◌≤◌, Bool, true, false, cond, eqb, ltb, List, [], ◌∷◌, length, Some, None, Ok, Err, Option, Result, sym, refl, ap, ◌∙◌, subst, arith}
+use Rattle.std.proofs.Common.{◌≡◌, ℕ, ◌≤◌, Bool, true, false, eqb, ltb, List, length, Some, None, Ok, Err, Option, Result, refl, ap, ◌∙◌, subst, arith}
 use Rattle.std.proofs.lemmas.Bool.{cond-true, eq-eqb, eqb-true, lt-ltb, ltb-true}
 use Rattle.std.specs.List.{slice_get}
 use Rattle.terms.specs.Lists.{◌∈◌, member}
@@ -14,7 +14,7 @@ use Rattle.calculus.specs.Checks.{and_then, claimed, head_at, no_difference, pas
 use Rattle.calculus.specs.Fronts.{first_apart}
 use Rattle.forms.specs.Limits.{clause_limit, head_limit}
 use Rattle.calculus.specs.Limits.{scratch_needed}
-use Rattle.calculus.specs.Register.{Clause, Ready, Register, Stands}
+use Rattle.calculus.specs.Register.{Ready, Register, Stands}
 use Rattle.calculus.proofs.Placed.{apart_none_same, same_apart_none}
 
 pub no_ok : {X A : Type 0} {e : Refusal} {x : X} → Err e ≡ Ok x → A

@@ -1,5 +1,5 @@
 -- Every past has exactly one register, and it is what the book holds. Assumes nothing.
-use Rattle.std.proofs.Common.{◌≡◌, ℕ, ◌⊎◌, ◌↔◌, List, [], ◌∷◌, Ok, Err, Result, sym, refl, ap, ◌∙◌, subst, inl, inr}
+use Rattle.std.proofs.Common.{◌≡◌, ◌⊎◌, [], ◌∷◌, Ok, Err, Result, sym, refl, ap, ◌∙◌, subst, inl, inr}
 use Rattle.terms.specs.declared.refusals.Refusal.{Refusal}
 use Rattle.calculus.specs.Events.{Event, Takes, Well, ask, close, core, enter_axiom, enter_inclusion, grown, hyper, open_context, pred, refute}
 use Rattle.calculus.specs.Law.{Gives, Had, Moment, Past, Said, before, called, left, new, now, start, taken}

@@ -1,5 +1,5 @@
 -- A pred step passes its checks exactly when the rule yields its claim. Assumes nothing.
-use Rattle.std.proofs.Common.{◌≡◌, ℕ, ◌+◌, ◌≤◌, Bool, true, ◌&&◌, ltb, ◌⊎◌, ◌↔◌, List, [], ◌∷◌, map, length, Ok, Err, Result, sym, refl, ap, ◌∙◌, subst, inl, inr, ⊎_elim}
+use Rattle.std.proofs.Common.{◌≡◌, ℕ, ◌+◌, ◌≤◌, true, ◌&&◌, ltb, ◌⊎◌, ◌↔◌, List, [], ◌∷◌, map, length, Ok, sym, refl, ap, ◌∙◌, subst, inl, inr, ⊎_elim}
 use Rattle.std.proofs.lemmas.Bool.{and_from, and_parts}
 use Rattle.std.specs.List.{slice_get}
 use Rattle.terms.specs.Lists.{◌∈◌, Subset, contained, removal, rising}
@@ -7,16 +7,15 @@ use Rattle.terms.specs.Literals.{literal_precedes}
 use Rattle.terms.specs.Roles.{mirror}
 use Rattle.terms.specs.declared.literals.Literal.{Literal}
 use Rattle.terms.specs.declared.literals.Literal.TheVariants.{Concept, Exists, Forall}
-use Rattle.terms.specs.declared.refusals.Refusal.{Refusal}
 use Rattle.terms.specs.declared.refusals.Refusal.TheVariants.{ClauseNotEntered, ContextNotOpened, CoreDiffers, LiteralUnfit, RoleNotReached}
 use Rattle.terms.specs.declared.roles.Role.{Role}
 use Rattle.terms.proofs.Chains.{reach_decided}
 use Rattle.terms.specs.Positions.{literal_order}
 use Rattle.terms.proofs.Sets.{contained_means, removal_means, rising_same}
-use Rattle.calculus.specs.Checks.{and_then, back_brings, back_test, claimed, core_named, core_of, far_row, near_row, passes, pred_check, premise_head, reaches_test, ready, required, same_core, side_brings, side_head, side_test, walked}
+use Rattle.calculus.specs.Checks.{back_brings, back_test, core_named, core_of, far_row, near_row, passes, pred_check, premise_head, reaches_test, ready, required, same_core, side_brings, side_head, side_test, walked}
 use Rattle.calculus.specs.Fronts.{placed_all}
 use Rattle.forms.specs.Limits.{head_limit}
-use Rattle.calculus.specs.Register.{Clause, GoodSide, LeadsTo, Pred, Premise, Ready, Register, Stands, inclusions, side_literal}
+use Rattle.calculus.specs.Register.{Clause, GoodSide, LeadsTo, Pred, Ready, Register, inclusions, side_literal}
 use Rattle.forms.specs.declared.sides.Side.{Side}
 use Rattle.calculus.proofs.HyperTie.{concept_order}
 use Rattle.calculus.proofs.Passing.{and_then_ok, and_then_on, claimed_ok, claimed_yes, no_ok, ok_same, passes_ok, passes_yes, premise_ok, premise_yes, ready_ok, ready_yes, required_ok}

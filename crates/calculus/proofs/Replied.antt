@@ -1,29 +1,13 @@
 -- What each kind of answer says of the register. Assumes nothing.
-use Rattle.std.proofs.Common.{◌≡◌, ℕ, zero, suc, ◌+◌, ◌<◌, ◌≤◌, Bool, true, false, cond, not, ◌&&◌, ltb, ◌⊎◌, ◌↔◌, List, [], ◌∷◌, map, is_ok, Some, None, Ok, Err, Option, Result, sym, refl, ap, ◌∙◌, subst, inl, inr, ⊎_elim, arith, MatchOption}
-use mathlib.Core.Logic.{∥∥₁_elim, ∥∥₁_prop}
-use Rattle.std.proofs.lemmas.Bool.{and_from, and_parts, cases_order, not_from_false, not-true, true≢false}
-use Rattle.std.specs.List.{slice_get}
-use Rattle.terms.specs.Lists.{◌∈◌, Subset, contained}
-use Rattle.terms.specs.Literals.{literal_precedes}
-use Rattle.terms.specs.declared.literals.Literal.{Literal}
-use Rattle.terms.specs.declared.literals.Literal.TheVariants.{Concept}
-use Rattle.terms.specs.declared.refusals.Refusal.{Refusal}
-use Rattle.terms.specs.declared.refusals.Refusal.TheVariants.{BookClosed, BookOpen}
-use Rattle.terms.specs.Positions.{literal_order}
-use Rattle.terms.proofs.Sets.{contained_means}
-use Rattle.models.specs.Judging.{contradiction, unless_fault, verdict}
-use Rattle.models.specs.Meanings.{Meaning, fault_of, interpretation}
-use Rattle.models.specs.Semantics.{Contradicts, Implies, Interpretation, IsIn, LowestContradiction, Models, Subsumes}
-use Rattle.models.proofs.Words.{contradiction_means, passes_exactly}
-use Rattle.calculus.specs.Checks.{and_then, passes}
-use Rattle.calculus.specs.Events.{Enters, Event, Strengthens, Takes, Well, ask, close, core, enter_axiom, enter_inclusion, hyper, number, open_context, pred, refute}
-use Rattle.calculus.specs.Register.{Clause, Register, Stands}
-use Rattle.calculus.specs.Replies.{check, covering, covering_by, granted, lowest_clause, refuted_by, reply, shown_by}
-use Rattle.calculus.specs.Truth.{ClausesHold}
-use Rattle.calculus.specs.declared.answers.Answer.{Answer}
-use Rattle.calculus.specs.declared.answers.Answer.TheVariants.{Closed, Entered, Refuted, Shown, Unshown}
-use Rattle.calculus.proofs.HyperTie.{concept_order}
-use Rattle.calculus.proofs.Passing.{and_then_ok, and_then_on, no_ok, ok_same, passes_ok, passes_yes}
+use Rattle.std.proofs.Common.{◌≡◌, ℕ, false, not, ◌↔◌, Some, None, Ok, Option, sym, refl, ap, ◌∙◌, subst, arith}
+use Rattle.std.proofs.lemmas.Bool.{not_from_false, not-true}
+use Rattle.terms.specs.declared.refusals.Refusal.TheVariants.{BookClosed}
+use Rattle.models.specs.Judging.{contradiction}
+use Rattle.calculus.specs.Events.{Enters, Event, Takes, Well, ask, close, core, enter_axiom, enter_inclusion, hyper, number, open_context, pred, refute}
+use Rattle.calculus.specs.Register.{Register}
+use Rattle.calculus.specs.Replies.{check, granted, lowest_clause, refuted_by, reply, shown_by}
+use Rattle.calculus.specs.declared.answers.Answer.TheVariants.{Closed, Entered}
+use Rattle.calculus.proofs.Passing.{and_then_ok, and_then_on, no_ok, passes_ok, passes_yes}
 use Rattle.calculus.proofs.Taking.{Changes, exactly}
 
 -- ---- entered, and closed

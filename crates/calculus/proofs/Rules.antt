@@ -1,5 +1,5 @@
 -- What each rule yields is true wherever the axioms and the clauses are. Assumes nothing.
-use Rattle.std.proofs.Common.{◌≡◌, ℕ, zero, suc, Bool, true, false, ◌⊎◌, List, [], ◌∷◌, length, Some, None, sym, refl, ap, ◌∙◌, subst, inl, inr, arith}
+use Rattle.std.proofs.Common.{◌≡◌, ℕ, zero, suc, Bool, true, false, ◌⊎◌, List, [], ◌∷◌, length, Some, sym, refl, ap, subst, inl, inr, arith}
 use mathlib.Core.Logic.{∥∥₁_elim, ∥∥₁_prop}
 use Rattle.std.specs.List.{slice_get}
 use Rattle.std.proofs.lemmas.Bool.{both_ways, cases_Bool}
@@ -14,7 +14,7 @@ use Rattle.terms.specs.Positions.{literal_order}
 use Rattle.terms.proofs.Sets.{alike_refl, alike_same}
 use Rattle.models.specs.Semantics.{Implies, InSome, Interpretation, IsIn, Models, Pair, Satisfies, Sentence, implies, turned, under}
 use Rattle.models.proofs.Pairs.{along_chain, mirror_pairs}
-use Rattle.calculus.specs.Register.{Clause, Core, GoodSide, Hyper, LeadsTo, Pred, Premise, Register, Stands, inclusions, pairs, side_literal}
+use Rattle.calculus.specs.Register.{Core, Hyper, LeadsTo, Pred, Register, inclusions, pairs, side_literal}
 use Rattle.calculus.specs.Truth.{ClausesHold, RulesHold}
 use Rattle.forms.specs.declared.sides.Side.{Side}
 

@@ -1,9 +1,9 @@
 -- What `shown` and `refuted` say of the register. Assumes nothing.
-use Rattle.std.proofs.Common.{◌≡◌, ℕ, zero, suc, ◌+◌, ◌<◌, Bool, true, false, cond, ◌&&◌, ltb, ◌⊎◌, ◌↔◌, List, [], ◌∷◌, map, is_ok, Some, None, Ok, Err, Option, Result, sym, refl, ap, ◌∙◌, subst, inl, inr, arith}
+use Rattle.std.proofs.Common.{◌≡◌, ℕ, zero, suc, ◌+◌, ◌<◌, Bool, true, false, cond, ltb, ◌⊎◌, ◌↔◌, List, [], ◌∷◌, map, is_ok, Some, None, Ok, Err, Option, Result, sym, refl, ap, ◌∙◌, subst, inl, inr, arith}
 use mathlib.Core.Logic.{∥∥₁_elim, ∥∥₁_prop}
 use Rattle.std.proofs.lemmas.Bool.{and_from, and_parts, cases_order, true≢false}
 use Rattle.std.specs.List.{slice_get}
-use Rattle.terms.specs.Lists.{◌∈◌, Subset, contained}
+use Rattle.terms.specs.Lists.{◌∈◌}
 use Rattle.terms.specs.Literals.{literal_precedes}
 use Rattle.terms.specs.declared.literals.Literal.{Literal}
 use Rattle.terms.specs.declared.literals.Literal.TheVariants.{Concept}
@@ -12,11 +12,11 @@ use Rattle.terms.specs.declared.refusals.Refusal.TheVariants.{BookOpen}
 use Rattle.terms.specs.Positions.{literal_order}
 use Rattle.terms.proofs.Sets.{contained_means}
 use Rattle.models.specs.Judging.{contradiction, judged_from, unless_fault, verdict}
-use Rattle.models.specs.Meanings.{Meaning, fault_of, interpretation, refusal_of}
-use Rattle.models.specs.Semantics.{Contradicts, Interpretation, LowestContradiction, Models, Subsumes}
+use Rattle.models.specs.Meanings.{Meaning, fault_of, interpretation}
+use Rattle.models.specs.Semantics.{Interpretation, LowestContradiction, Models, Subsumes}
 use Rattle.models.specs.declared.samples.Fault.{Fault}
 use Rattle.models.proofs.Words.{contradiction_means, passes_exactly}
-use Rattle.calculus.specs.Checks.{and_then, passes}
+use Rattle.calculus.specs.Checks.{passes}
 use Rattle.calculus.specs.Events.{Strengthens, ask, refute}
 use Rattle.calculus.specs.Register.{Clause, Register}
 use Rattle.calculus.specs.Replies.{check, covering, covering_by, granted, lowest_clause, refuted_by, reply, shown_by}

@@ -1,12 +1,12 @@
 -- Every clause of a book holds wherever the axioms do. Assumes nothing.
-use Rattle.std.proofs.Common.{◌≡◌, ℕ, zero, suc, ◌⊎◌, List, [], ◌∷◌, ◌++◌, Some, None, Option, sym, refl, ap, ◌∙◌, subst, inl, inr, arith}
+use Rattle.std.proofs.Common.{◌≡◌, ℕ, zero, suc, ◌⊎◌, List, [], ◌∷◌, ◌++◌, Some, sym, ap, subst, inl, inr, arith}
 use Rattle.std.specs.List.{slice_get}
 use Rattle.terms.specs.Lists.{◌∈◌}
 use Rattle.terms.specs.declared.literals.Literal.{Literal}
 use Rattle.terms.specs.declared.literals.Literal.TheVariants.{Concept}
 use Rattle.models.specs.Semantics.{Implies, Interpretation, Models, Sentence}
-use Rattle.calculus.specs.Events.{Event, Takes, ask, close, core, enter_axiom, enter_inclusion, grown, hyper, open_context, pred, refute, with_axiom, with_clause}
-use Rattle.calculus.specs.Law.{Gives, Past, Said, left, start, taken}
+use Rattle.calculus.specs.Events.{Event, Takes, ask, close, core, enter_axiom, enter_inclusion, grown, hyper, open_context, pred, refute, with_clause}
+use Rattle.calculus.specs.Law.{Gives, Past, left, start, taken}
 use Rattle.calculus.specs.Register.{Clause, Register, Stands}
 use Rattle.calculus.specs.Truth.{ClausesHold}
 use Rattle.calculus.proofs.Rules.{rules_true}

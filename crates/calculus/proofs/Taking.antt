@@ -1,5 +1,5 @@
 -- An event that changes the register passes its checks exactly when the register takes it. Assumes nothing.
-use Rattle.std.proofs.Common.{◌≡◌, ℕ, ◌<◌, Bool, true, false, not, ltb, ◌⊎◌, ◌↔◌, List, [], ◌∷◌, length, Ok, Err, Result, sym, refl, ap, ◌∙◌, subst, inl, inr}
+use Rattle.std.proofs.Common.{◌≡◌, ℕ, ◌<◌, Bool, true, not, ltb, ◌⊎◌, ◌↔◌, length, Ok, Err, Result, refl, ◌∙◌, inl, inr}
 use Rattle.std.proofs.lemmas.Bool.{lt-ltb, ltb-true, not_from_false, not-true}
 use Rattle.terms.specs.declared.refusals.Refusal.{Refusal}
 use Rattle.terms.specs.declared.refusals.Refusal.TheVariants.{BookClosed, BookOpen, NoPlaceFree}
@@ -9,7 +9,7 @@ use Rattle.forms.specs.Limits.{axiom_limit, context_limit}
 use Rattle.calculus.specs.Register.{Register}
 use Rattle.calculus.specs.Replies.{check, room}
 use Rattle.calculus.proofs.HyperTie.{core_exactly, hyper_exactly}
-use Rattle.calculus.proofs.Passing.{and_then_ok, and_then_on, no_ok, passes_ok, passes_yes}
+use Rattle.calculus.proofs.Passing.{and_then_ok, and_then_on, passes_ok, passes_yes}
 use Rattle.calculus.proofs.PredTie.{pred_exactly}
 
 -- the event is no question

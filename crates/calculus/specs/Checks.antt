@@ -1,6 +1,6 @@
 -- Whether a step is entered, as a book finds it out: the checks in the order of their refusals, and the head that is gathered on the way. That a
 -- step passes exactly when the rule yields its claim is proved. Assumes nothing.
-use Rattle.std.specs.Prelude.{ℕ, ◌+◌, ◌-◌, Bool, true, false, cond, ◌&&◌, ltb, List, [], ◌∷◌, map, length, Some, None, Ok, Err, Option, Result, ◌==◌, nat_lt}
+use Rattle.std.specs.Prelude.{ℕ, ◌+◌, ◌-◌, Bool, cond, ◌&&◌, ltb, List, [], ◌∷◌, map, length, Some, None, Ok, Err, Option, Result, ◌==◌, nat_lt}
 use Rattle.std.specs.List.{slice_get}
 use Rattle.terms.specs.Lists.{contained, member, removal}
 use Rattle.terms.specs.Literals.{literal_precedes}

@@ -1,5 +1,5 @@
 -- What a book is asked, when its register takes it, and what the register then is. All of it is drawn from the arguments of the calls. Assumes nothing.
-use Rattle.std.specs.Prelude.{◌≡◌, ℕ, ◌<◌, Bool, true, false, List, [], ◌∷◌, ◌++◌, length, Some}
+use Rattle.std.specs.Prelude.{◌≡◌, ℕ, ◌<◌, true, false, List, [], ◌∷◌, ◌++◌, length, Some}
 use Rattle.std.specs.List.{slice_get}
 use Rattle.terms.specs.Lists.{◌∈◌, Subset}
 use Rattle.terms.specs.declared.literals.Literal.{Literal}
@@ -9,7 +9,7 @@ use Rattle.models.specs.Meanings.{Meaning}
 use Rattle.models.specs.Semantics.{Sentence, implies, under}
 use Rattle.calculus.specs.Exactness.{IsClaim}
 use Rattle.forms.specs.Limits.{axiom_limit, context_limit}
-use Rattle.calculus.specs.Register.{Clause, Core, Hyper, Pred, Ready, Register, Stands}
+use Rattle.calculus.specs.Register.{Core, Hyper, Pred, Ready, Register, Stands}
 use Rattle.forms.specs.declared.sides.Side.{Side}
 
 -- a call; a step carries the length of the scratch that it is lent, and a refutation what its sample means

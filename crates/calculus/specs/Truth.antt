@@ -4,7 +4,7 @@ use Rattle.std.specs.List.{slice_get}
 use Rattle.terms.specs.declared.literals.Literal.{Literal}
 use Rattle.terms.specs.declared.roles.Role.{Role}
 use Rattle.models.specs.Semantics.{Implies, Interpretation, Models}
-use Rattle.calculus.specs.Register.{Clause, Core, Hyper, Pred, Register, Stands}
+use Rattle.calculus.specs.Register.{Core, Hyper, Pred, Register, Stands}
 use Rattle.forms.specs.declared.sides.Side.{Side}
 
 -- every clause holds over the core of its context

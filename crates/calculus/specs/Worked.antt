@@ -1,5 +1,5 @@
 -- A session worked out: the calls, and the answer that each gets from a book that was new. Assumes nothing.
-use Rattle.std.specs.Prelude.{◌≡◌, ℕ, Bool, false, ◌&&◌, ◌||◌, List, [], ◌∷◌, map, None, Ok, Err, Result, ◌==◌}
+use Rattle.std.specs.Prelude.{◌≡◌, ◌&&◌, ◌||◌, List, [], ◌∷◌, map, None, Ok, Err, Result, ◌==◌}
 use Rattle.std.proofs.Common.{lit<}
 use Rattle.terms.specs.declared.literals.Literal.TheVariants.{Concept, Exists, Forall}
 use Rattle.terms.specs.declared.refusals.Refusal.{Refusal}

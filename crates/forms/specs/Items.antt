@@ -1,5 +1,5 @@
 -- What keeps a number, or a list of items that numbers state, from being part of a form. Assumes nothing.
-use Rattle.std.specs.Prelude.{◌≡◌, ℕ, ◌-◌, Bool, true, cond, List, [], ◌∷◌, map, Some, None, Option, Result, MatchResult, ◌==◌, nat_lt}
+use Rattle.std.specs.Prelude.{◌≡◌, ℕ, ◌-◌, Bool, true, cond, List, [], ◌∷◌, Some, None, Option, Result, MatchResult, ◌==◌, nat_lt}
 use Rattle.terms.specs.declared.refusals.Refusal.{Refusal}
 use Rattle.terms.specs.declared.refusals.Refusal.TheVariants.{NotRising, OutOfRange, TooLong}
 use Rattle.models.specs.Charts.{first_refusal}

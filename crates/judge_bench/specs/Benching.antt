@@ -1,5 +1,5 @@
 -- The axiom and the table of the benchmark. Assumes nothing.
-use Rattle.std.specs.Prelude.{ℕ, ◌<◌, Bool, cond, ◌||◌, List, [], ◌∷◌, nat_le, nat_lt}
+use Rattle.std.specs.Prelude.{ℕ, ◌<◌, Bool, cond, ◌||◌, [], ◌∷◌, nat_le, nat_lt}
 use Rattle.std.proofs.Common.{lit<}
 use Rattle.terms.specs.Limits.{role_codes}
 use Rattle.terms.specs.declared.literals.Literal.{Literal}

@@ -1,9 +1,9 @@
 -- Pairs of roles in any interpretation: of mirrors, and along chains of inclusions. Assumes nothing.
-use Rattle.std.proofs.Common.{◌≡◌, ℕ, Bool, true, false, not, ◌↔◌, List, sym, refl, ap, ◌∙◌, subst}
+use Rattle.std.proofs.Common.{◌≡◌, ℕ, Bool, true, false, not, ◌↔◌, List, sym, ap, ◌∙◌, subst}
 use Rattle.terms.specs.Lists.{◌∈◌}
 use Rattle.terms.specs.Reaching.{Inclusion, Leads, Reaches, chain, here, listed, mirrored}
 use Rattle.terms.specs.Roles.{backwards, mirror, name_of}
-use Rattle.terms.specs.Codes.{mirror_name, mirror_twice, mirror_way}
+use Rattle.terms.specs.Codes.{mirror_name, mirror_way}
 use Rattle.models.specs.Semantics.{Interpretation, Pair, Satisfies, turned, under}
 
 module _ (I : Interpretation) where

@@ -1,14 +1,14 @@
 -- The tests of the judge decide what the semantics says of the interpretation that the sample is. Assumes nothing.
-use Rattle.std.proofs.Common.{◌≡◌, ℕ, ◌+◌, ◌<◌, ◌≤◌, max, Bool, true, false, cond, not, ◌&&◌, ltb, ◌⊎◌, List, [], ◌∷◌, is_some, Some, None, Decides, sym, refl, ap, ◌∙◌, subst, inl, inr, arith}
-use mathlib.Core.Logic.{∥∥₁_elim, ∥∥₁_map}
-use Rattle.std.proofs.lemmas.Bool.{and_parts, both_ways, cases_Bool, lt-ltb, ltb-true, not_from_false, not-true}
+use Rattle.std.proofs.Common.{◌≡◌, ℕ, ◌<◌, ◌≤◌, max, Bool, true, false, cond, not, ◌⊎◌, List, Some, None, Decides, inl, inr, arith}
+use mathlib.Core.Logic.{∥∥₁_elim}
+use Rattle.std.proofs.lemmas.Bool.{and_parts, both_ways, cases_Bool, lt-ltb, ltb-true}
 use Rattle.std.proofs.lemmas.Bool.Decides.{Decides-and, Decides-like, Decides-not, not_from_Decides}
 use Rattle.terms.specs.Lists.{◌∈◌}
 use Rattle.terms.specs.Roles.{backwards, name_of}
 use Rattle.terms.specs.declared.literals.Literal.{Literal}
 use Rattle.terms.specs.declared.literals.Literal.TheVariants.{Concept, Exists, Forall}
-use Rattle.models.specs.Judging.{all_test, any_test, contradiction, contradicts_test, fails_test, filler_at, filler_test, first_failure, literal_test, lowest, missing_at, missing_test, pair_test, some_test}
-use Rattle.models.specs.Meanings.{Meaning, element_in, in_domain, interpretation, linked}
+use Rattle.models.specs.Judging.{all_test, any_test, contradicts_test, fails_test, filler_at, filler_test, first_failure, literal_test, missing_at, missing_test, pair_test, some_test}
+use Rattle.models.specs.Meanings.{Meaning, element_in, interpretation, linked}
 use Rattle.models.specs.Semantics.{Contradicts, FailsAt, Implies, InAll, InSome, IsIn, Pair, Satisfies, Sentence, implies, turned, under}
 use Rattle.models.proofs.Decided.{decides_any, decides_every, decides_lowest, found, none_found}
 

@@ -1,16 +1,14 @@
 -- The verdict and the lowest contradiction, in the words of the semantics. Assumes nothing.
-use Rattle.std.proofs.Common.{◌≡◌, ℕ, zero, suc, ◌+◌, ◌<◌, ◌≤◌, Bool, true, false, cond, ◌&&◌, leb, ◌⊎◌, List, [], ◌∷◌, is_ok, Some, None, Ok, Err, Decides, Option, Result, sym, refl, ap, ◌∙◌, subst, inl, inr, ⊎_elim, arith, MatchOption}
+use Rattle.std.proofs.Common.{◌≡◌, ℕ, zero, suc, ◌+◌, ◌<◌, ◌≤◌, Bool, true, false, cond, ◌&&◌, leb, List, [], ◌∷◌, is_ok, Some, None, Ok, Err, Decides, Option, Result, sym, refl, ap, ◌∙◌, subst, inl, inr, ⊎_elim, arith, MatchOption}
 use Rattle.std.specs.List.{slice_get}
-use Rattle.std.proofs.lemmas.Bool.{and_parts, both_ways, cases_Bool, leb-true, true≢false}
-use Rattle.terms.specs.Lists.{◌∈◌}
+use Rattle.std.proofs.lemmas.Bool.{and_parts, both_ways, leb-true, true≢false}
 use Rattle.terms.specs.declared.refusals.Refusal.{Refusal}
 use Rattle.terms.specs.declared.refusals.Refusal.TheVariants.{AxiomFails}
-use Rattle.models.specs.Judging.{contradiction, contradicts_test, fails_test, first_failure, judged_from, judged_one, lowest, unless_fault, verdict}
+use Rattle.models.specs.Judging.{contradiction, contradicts_test, fails_test, first_failure, judged_from, judged_one, unless_fault, verdict}
 use Rattle.models.specs.Meanings.{Meaning, fault_of, interpretation}
-use Rattle.models.specs.Semantics.{Contradicts, FailsAt, LowestContradiction, LowestFailure, Models, Satisfies, Sentence}
-use Rattle.models.specs.declared.samples.Fault.{Fault}
+use Rattle.models.specs.Semantics.{Contradicts, LowestContradiction, LowestFailure, Models, Satisfies, Sentence}
 use Rattle.models.specs.declared.samples.Fault.TheVariants.{Misshapen}
-use Rattle.models.proofs.Decided.{cases_found, found, none_found}
+use Rattle.models.proofs.Decided.{found, none_found}
 use Rattle.models.proofs.Truth.{contradicts_below, contradicts_decides, fails_decides, not_satisfied, satisfied}
 
 -- a sample without fault has an element

@@ -1,5 +1,5 @@
 -- What an axiom of the code states, and what keeps one from being made.
-use Rattle.std.specs.Prelude.{ℕ, Bool, List, Some, None, Option, nat_lt}
+use Rattle.std.specs.Prelude.{ℕ, List, Some, None, Option, nat_lt}
 use Rattle.terms.specs.Literals.{literal_precedes}
 use Rattle.terms.specs.Shorts.{held, list_refusal}
 use Rattle.terms.specs.declared.literals.Literal.{Literal}

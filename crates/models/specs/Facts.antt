@@ -1,5 +1,5 @@
 -- What entries say, and their ranges. Assumes nothing.
-use Rattle.std.specs.Prelude.{ℕ, Bool, true, false, ◌&&◌, ◌==◌, nat_lt}
+use Rattle.std.specs.Prelude.{Bool, false, ◌&&◌, ◌==◌, nat_lt}
 use Rattle.models.specs.declared.facts.Fact.{Fact}
 use Rattle.models.specs.declared.facts.Fact.TheVariants.{In, Link}
 

@@ -1,6 +1,6 @@
 -- What a sample means: its fault if it has one, its size, and its facts as tests. A fact counts only between elements of the
 -- domain, which are 0 to the size less 1. Assumes nothing.
-use Rattle.std.specs.Prelude.{◌≡◌, ℕ, ◌<◌, max, Bool, true, cond, ◌&&◌, Some, Option, nat_le, nat_lt}
+use Rattle.std.specs.Prelude.{◌≡◌, ℕ, max, Bool, true, cond, ◌&&◌, Some, Option, nat_le, nat_lt}
 use Rattle.std.proofs.Common.{arith}
 use Rattle.std.proofs.lemmas.Bool.{and_parts, lt-ltb, ltb-true}
 use Rattle.terms.specs.declared.refusals.Refusal.{Refusal}

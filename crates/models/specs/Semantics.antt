@@ -1,6 +1,6 @@
 -- What concepts, roles, literals and axioms mean: the standard (OWL 2 Direct) semantics of the description logic ALCHI.
 -- An interpretation may be finite or infinite, and its sets are arbitrary predicates. Assumes nothing.
-use Rattle.std.specs.Prelude.{◌≡◌, ℕ, ◌<◌, Bool, true, false, List, [], ◌∷◌, map, Some}
+use Rattle.std.specs.Prelude.{◌≡◌, ℕ, ◌<◌, Bool, true, false, List, map, Some}
 use Rattle.std.specs.List.{slice_get}
 use Rattle.terms.specs.Lists.{◌∈◌}
 use Rattle.terms.specs.Roles.{backwards, name_of}

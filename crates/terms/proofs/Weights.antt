@@ -1,5 +1,5 @@
 -- Single weights of a number. Assumes nothing.
-use Rattle.std.proofs.Common.{◌≡◌, ℕ, ◌+◌, ◌-◌, ◌*◌, ◌/◌, ◌%◌, ◌^◌, ◌<◌, ◌≤◌, Bool, true, false, cond, ◌&&◌, ◌||◌, eqb, ◌⊎◌, sym, refl, ap, ◌∙◌, inl, inr, one-mul, arith}
+use Rattle.std.proofs.Common.{◌≡◌, ℕ, ◌+◌, ◌-◌, ◌/◌, ◌%◌, ◌^◌, ◌<◌, true, false, ◌&&◌, ◌||◌, eqb, ◌⊎◌, sym, ap, ◌∙◌, inl, inr, one-mul, arith}
 use mathlib.Core.Bool.{or-false}
 use lib.Bits.{bit_and, bit_or, and_mask, or_shr, or_mod}
 use Rattle.std.proofs.lemmas.Nat.{pow-add, pow_pos, pow_below, mod_below, div_below, shl-shr}

@@ -1,5 +1,5 @@
 -- Literals: their order and their positions. Assumes nothing.
-use Rattle.std.specs.Prelude.{◌≡◌, ℕ, ◌+◌, ◌*◌, ◌<◌, Bool, true, false, cond, nat_lt}
+use Rattle.std.specs.Prelude.{ℕ, ◌+◌, ◌*◌, ◌<◌, Bool, true, false, cond, nat_lt}
 use Rattle.terms.specs.Limits.{concepts}
 use Rattle.terms.specs.declared.roles.Role.{Role}
 use Rattle.terms.specs.declared.literals.Literal.{Literal}

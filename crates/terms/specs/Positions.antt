@@ -1,11 +1,10 @@
 -- The order of literals: that it is one, and that it is the order of their positions. Assumes nothing.
 use Rattle.std.specs.Prelude.{◌≡◌, ℕ, ◌+◌, ◌*◌, ◌<◌, Bool, true, false, cond, nat_lt, Decides, refl}
 use Rattle.std.proofs.Common.{sym, ap, ◌∙◌, subst, arith}
-use Rattle.std.proofs.lemmas.Bool.{ltb-true, ltb-false, lt-ltb, le-ltb, true≢false, not-true, not_from_false, and_parts, and_from}
+use Rattle.std.proofs.lemmas.Bool.{lt-ltb, le-ltb, true≢false, not-true, not_from_false, and_parts, and_from}
 use Rattle.std.proofs.lemmas.Bool.Decides.{nat_tests}
 use Rattle.terms.specs.Lists.{TotalOrder, alike}
-use Rattle.terms.specs.Literals.{InRange, concept_of, literal_precedes, pair_precedes, position}
-use Rattle.terms.specs.declared.roles.Role.{Role}
+use Rattle.terms.specs.Literals.{InRange, literal_precedes, position}
 use Rattle.terms.specs.declared.literals.Literal.{Literal}
 use Rattle.terms.specs.declared.literals.Literal.TheVariants.{Concept, Exists, Forall}
 use Rattle.terms.specs.Codes.{role_same}

@@ -1,4 +1,4 @@
-use Rattle.std.proofs.Common.{◌≡◌, map, sym, ap, ◌∙◌}
+use Rattle.std.proofs.Common.{map, sym, ap, ◌∙◌}
 use Rattle.terms.specs.Lists.{member}
 use Rattle.terms.specs.Literals.{literal_precedes}
 use Rattle.terms.specs.declared.literals.Literal.{Literal}

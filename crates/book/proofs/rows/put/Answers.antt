@@ -1,4 +1,4 @@
-use Rattle.std.proofs.Common.{◌≡◌, ◌+◌, List, ◌++◌, take, drop, set, sym, subst, arith}
+use Rattle.std.proofs.Common.{take, sym, arith}
 use Rattle.std.proofs.lemmas.List.{length-set}
 use Rattle.calculus.specs.Fronts.{placed}
 use Rattle.book.proofs.Places.{swapped, passed, found, ended}

@@ -1,4 +1,4 @@
-use Rattle.std.proofs.Common.{◌≡◌, refl}
+use Rattle.std.proofs.Common.{refl}
 use Rattle.std.proofs.lemmas.List.{drop_all}
 use Rattle.terms.proofs.Turns.{drop_read}
 use Rattle.book.proofs.Caps.{way_end, way_put}

@@ -1,7 +1,7 @@
-use Rattle.std.proofs.Common.{◌≡◌, ◌+◌, length, drop, sym, refl, ap, arith}
+use Rattle.std.proofs.Common.{sym, refl, ap}
 use Rattle.std.proofs.lemmas.List.{drop_all}
 use Rattle.terms.specs.Lists.{removal}
-use Rattle.book.proofs.Caps.{OnTheWay, way_put, way_other, way_end}
+use Rattle.book.proofs.Caps.{way_put, way_other, way_end}
 use Rattle.terms.proofs.Turns.{drop_read, removal_drops, removal_keeps}
 use Rattle.book.proofs.rows.put_but.Goals as goal
 use Rattle.book.proofs.rows.put_but.Goals.{then-not-same, else-not-same}

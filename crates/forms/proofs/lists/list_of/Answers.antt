@@ -1,11 +1,10 @@
-use Rattle.std.proofs.Common.{◌≡◌, ℕ, ◌+◌, ◌-◌, ◌<◌, cond, ltb, List, [], ◌∷◌, ◌++◌, map, length, take, drop, Some, sym, ap, ◌∙◌, arith}
+use Rattle.std.proofs.Common.{◌≡◌, ◌+◌, ◌-◌, ◌<◌, [], ◌∷◌, ◌++◌, map, length, drop, sym, ap, ◌∙◌, arith}
 use Rattle.std.proofs.lemmas.List.{drop_all, map_push, take_all, take_more}
 use Rattle.std.proofs.lemmas.Result.{err_from_is_err_and}
 use Rattle.std.proofs.lemmas.Bool.{cond-true, eq-eqb, lt-ltb, ne_eqb}
 use Rattle.std.specs.Option.{option_map}
 use Rattle.terms.specs.Shorts.{held}
-use Rattle.terms.specs.declared.refusals.Refusal.{Refusal}
-use Rattle.forms.specs.Items.{items_refusal, may_stand}
+use Rattle.forms.specs.Items.{may_stand}
 use Rattle.forms.proofs.Turns.{as_many, at_end, drop_read, falls, goes_on, outside, too_many}
 use Rattle.forms.proofs.lists.list_of.Goals as goal
 

@@ -1,4 +1,4 @@
-use Rattle.std.proofs.Common.{◌≡◌, true, false, is_some, sym, ap, arith}
+use Rattle.std.proofs.Common.{is_some, sym, ap, arith}
 use Rattle.models.specs.Judging.{filler_at}
 use Rattle.models.proofs.Search.{ended, hit, passed}
 use Rattle.models.proofs.judge.has_filler.Goals as goal

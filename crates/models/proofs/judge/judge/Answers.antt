@@ -1,6 +1,6 @@
-use Rattle.std.proofs.Common.{◌≡◌, map, Err, sym, refl, ap, ◌∙◌}
+use Rattle.std.proofs.Common.{map, Err, ap, ◌∙◌}
 use Rattle.models.specs.Charts.{sentence_of}
-use Rattle.models.specs.Judging.{judged_from, unless_fault, verdict}
+use Rattle.models.specs.Judging.{judged_from, unless_fault}
 use Rattle.models.proofs.Words.{fails_lowest, passes_exactly}
 use Rattle.models.proofs.judge.judge.Goals as goal
 

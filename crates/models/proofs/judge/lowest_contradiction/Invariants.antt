@@ -1,5 +1,4 @@
 use Rattle.std.proofs.Common.{◌≡◌, ◌-◌}
-use Rattle.models.specs.Charts.{sentence_of}
 use Rattle.models.specs.Judging.{contradicts_test, first_from, lowest}
 use Rattle.models.proofs.judge.lowest_contradiction.Given as goal
 

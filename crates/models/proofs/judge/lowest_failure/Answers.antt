@@ -1,4 +1,4 @@
-use Rattle.std.proofs.Common.{◌≡◌, is_some, sym, ap, arith}
+use Rattle.std.proofs.Common.{sym, arith}
 use Rattle.models.specs.Charts.{sentence_of}
 use Rattle.models.specs.Judging.{fails_test}
 use Rattle.models.proofs.Search.{ended, hit, passed}

@@ -1,5 +1,4 @@
-use Rattle.std.proofs.Common.{◌≡◌, is_some, sym, ap, arith}
-use Rattle.models.specs.Charts.{sentence_of}
+use Rattle.std.proofs.Common.{is_some, sym, ap, arith}
 use Rattle.models.specs.Judging.{missing_at}
 use Rattle.models.proofs.Search.{ended, hit, passed}
 use Rattle.models.proofs.judge.misses_pair.Goals as goal

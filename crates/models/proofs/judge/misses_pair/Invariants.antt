@@ -1,5 +1,4 @@
 use Rattle.std.proofs.Common.{◌≡◌, ◌-◌}
-use Rattle.models.specs.Charts.{sentence_of}
 use Rattle.models.specs.Judging.{missing_at, first_from, lowest}
 use Rattle.models.proofs.judge.misses_pair.Given as goal
 

@@ -1,6 +1,6 @@
-use Rattle.std.proofs.Common.{◌≡◌, ℕ, ◌+◌, ◌*◌, ◌^◌, Bool, leb, sym, ap, ◌∙◌, arith}
+use Rattle.std.proofs.Common.{ℕ, ◌+◌, ◌*◌, ◌^◌, Bool, leb, sym, ap, ◌∙◌}
 use Rattle.models.specs.Tables.{row}
-use Rattle.models.proofs.Search.{ended, hit, passed}
+use Rattle.models.proofs.Search.{hit, passed}
 use Rattle.models.proofs.tables.stray_row.Goals as goal
 
 pub returns-then-strays : goal.returns-then-strays

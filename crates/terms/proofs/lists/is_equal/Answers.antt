@@ -1,4 +1,4 @@
-use Rattle.std.proofs.Common.{◌≡◌, ◌&&◌, [], drop, sym, ap, ◌∙◌, arith}
+use Rattle.std.proofs.Common.{[], drop, sym, ap, ◌∙◌, arith}
 use Rattle.std.proofs.lemmas.List.{drop_all}
 use Rattle.terms.specs.Lists.{equal}
 use Rattle.terms.proofs.Sets.{equal_means, equal_sets}

@@ -1,4 +1,4 @@
-use Rattle.std.proofs.Common.{◌≡◌, lit<}
+use Rattle.std.proofs.Common.{lit<}
 use Rattle.terms.specs.Codes.{role_same}
 use Rattle.tour.specs.Chart.{role_of}
 use Rattle.tour.proofs.judging.chart.Goals as goal

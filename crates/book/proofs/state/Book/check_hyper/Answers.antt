@@ -1,4 +1,4 @@
-use Rattle.std.proofs.Common.{◌≡◌, length, sym, ap, ◌∙◌, arith}
+use Rattle.std.proofs.Common.{length, sym, ◌∙◌, arith}
 use Rattle.std.specs.List.{slice_get}
 use Rattle.terms.specs.Shorts.{held}
 use Rattle.terms.specs.declared.refusals.Refusal.TheVariants.{NoConceptAxiom}

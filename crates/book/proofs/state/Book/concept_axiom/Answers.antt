@@ -1,4 +1,4 @@
-use Rattle.std.proofs.Common.{◌≡◌, Some, sym, ap, ◌∙◌}
+use Rattle.std.proofs.Common.{Some, sym, ap, ◌∙◌}
 use Rattle.terms.specs.Shorts.{held}
 use Rattle.terms.specs.declared.refusals.Refusal.TheVariants.{NoConceptAxiom}
 use Rattle.models.specs.Charts.{sentence_of}

@@ -1,4 +1,4 @@
-use Rattle.std.proofs.Common.{◌≡◌, ℕ, ltb, List, map, sym, ap, ◌∙◌}
+use Rattle.std.proofs.Common.{ℕ, ltb, List, map, sym, ap, ◌∙◌}
 use Rattle.std.specs.List.{slice_get}
 use Rattle.terms.specs.Lists.{contained}
 use Rattle.terms.specs.Literals.{literal_precedes}

@@ -1,4 +1,4 @@
-use Rattle.std.proofs.Common.{◌≡◌, ℕ, List, get_or, drop, sym, ap, subst, arith}
+use Rattle.std.proofs.Common.{List, get_or, drop, subst, arith}
 use Rattle.std.proofs.lemmas.Result.{err_from_is_err_and}
 use Rattle.terms.specs.Lists.{removal}
 use Rattle.terms.specs.Literals.{literal_precedes}

@@ -1,4 +1,4 @@
-use Rattle.std.proofs.Common.{◌≡◌, List, get_or, drop, subst}
+use Rattle.std.proofs.Common.{List, drop, subst}
 use Rattle.std.proofs.lemmas.List.{drop_all}
 use Rattle.std.proofs.lemmas.Result.{err_from_is_err_and}
 use Rattle.terms.specs.Lists.{removal}
@@ -9,7 +9,6 @@ use Rattle.terms.proofs.Turns.{drop_read}
 use Rattle.calculus.specs.Checks.{side_brings, side_test}
 use Rattle.book.specs.Contents.{contents}
 use Rattle.calculus.specs.Fronts.{Capped, placed_all}
-use Rattle.calculus.specs.Register.{side_literal}
 use Rattle.book.proofs.Gathers.{gather_ends, gather_on, gather_stops}
 use Rattle.book.proofs.state.Book.gather_sides.Goals as goal
 

@@ -1,4 +1,4 @@
-use Rattle.std.proofs.Common.{◌≡◌, ◌∙◌}
+use Rattle.std.proofs.Common.{◌∙◌}
 use Rattle.book.proofs.state.Book.reaches.Goals as goal
 
 pub returns : goal.returns

@@ -1,4 +1,4 @@
-use Rattle.std.proofs.Common.{◌≡◌, ltb, sym, refl, ap, ◌∙◌}
+use Rattle.std.proofs.Common.{ltb, sym, refl, ap, ◌∙◌}
 use Rattle.std.proofs.lemmas.List.{map-id}
 use Rattle.terms.specs.Shorts.{held}
 use Rattle.forms.specs.Numbers.{concepts_refusal}

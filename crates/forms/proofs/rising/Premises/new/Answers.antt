@@ -1,8 +1,7 @@
-use Rattle.std.proofs.Common.{◌≡◌, ℕ, List, sym, ap, ◌∙◌, subst}
+use Rattle.std.proofs.Common.{ℕ, List, sym, ◌∙◌, subst}
 use Rattle.std.proofs.lemmas.List.{map-id}
 use Rattle.terms.specs.Lists.{◌∈◌}
 use Rattle.terms.specs.Shorts.{held}
-use Rattle.forms.specs.Numbers.{clauses_refusal}
 use Rattle.forms.proofs.Passed.{each_passes, in_range}
 use Rattle.forms.proofs.rising.Premises.new.Goals as goal
 

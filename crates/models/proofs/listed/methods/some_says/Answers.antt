@@ -1,4 +1,4 @@
-use Rattle.std.proofs.Common.{◌≡◌, Bool, sym, ap, ◌∙◌}
+use Rattle.std.proofs.Common.{Bool, ap, ◌∙◌}
 use Rattle.models.specs.Facts.{fact_same}
 use Rattle.models.specs.Listed.{fact_of}
 use Rattle.models.specs.declared.entries.Entry.{Entry}

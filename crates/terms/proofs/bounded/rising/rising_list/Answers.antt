@@ -2,7 +2,6 @@ use Rattle.std.proofs.Common.{◌≡◌, ℕ, ◌-◌, ◌<◌, ◌≤◌, min, 
 use Rattle.std.proofs.lemmas.List.{length-take-le, take_all}
 use Rattle.std.proofs.lemmas.Bool.{cases_lt, cond-true, cond-false, le-leb, lt-leb}
 use Rattle.terms.specs.Lists.{rising}
-use Rattle.terms.specs.Shorts.{held}
 use Rattle.terms.proofs.bounded.rising.rising_list.Goals as goal
 
 -- the front that is looked through

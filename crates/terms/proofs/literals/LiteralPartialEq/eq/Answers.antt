@@ -1,4 +1,3 @@
-use Rattle.terms.specs.Lists.{alike}
 use Rattle.terms.specs.Literals.{literal_precedes}
 use Rattle.terms.specs.Positions.{literal_order}
 use Rattle.terms.proofs.Sets.{alike_decides}

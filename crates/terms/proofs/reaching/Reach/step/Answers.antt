@@ -1,4 +1,4 @@
-use Rattle.std.proofs.Common.{◌≡◌, map, length, get_or, ap, ◌∙◌, arith}
+use Rattle.std.proofs.Common.{map, length, get_or, ap, ◌∙◌, arith}
 use Rattle.std.proofs.lemmas.List.{length-map}
 use Rattle.terms.proofs.Rows.{mapped_more, mapped_all}
 use Rattle.terms.specs.Tables.{extend}

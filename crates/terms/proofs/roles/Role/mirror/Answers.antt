@@ -1,4 +1,4 @@
-use Rattle.std.proofs.Common.{◌≡◌, ap, ◌∙◌}
+use Rattle.std.proofs.Common.{ap, ◌∙◌}
 use Rattle.terms.specs.Roles.{backwards, mirror, name_of}
 use Rattle.terms.specs.Codes.{mirror_name, mirror_twice, mirror_way, xor_below, xor_mirror}
 use Rattle.terms.proofs.roles.Role.mirror.Goals as goal

@@ -1,4 +1,4 @@
-use Rattle.std.proofs.Common.{◌≡◌, ◌&&◌, ltb, List, map, Decides, sym, ap, ◌∙◌, subst}
+use Rattle.std.proofs.Common.{◌&&◌, ltb, List, map, Decides, ap, ◌∙◌, subst}
 use Rattle.terms.specs.Lists.{◌∈◌}
 use Rattle.models.specs.Listed.{fact_of, says}
 use Rattle.models.specs.declared.entries.Entry.{Entry}

@@ -1,4 +1,4 @@
-use Rattle.std.proofs.Common.{◌≡◌, ◌&&◌, ltb, List, map, Decides, sym, ap, ◌∙◌, subst}
+use Rattle.std.proofs.Common.{◌&&◌, ltb, List, map, Decides, sym, ap, ◌∙◌, subst}
 use Rattle.std.proofs.lemmas.Bool.{and_from, lt-ltb}
 use Rattle.terms.specs.Lists.{◌∈◌}
 use Rattle.models.specs.Listed.{fact_of, says}
