@@ -13,7 +13,7 @@ fn a_list_takes_as_many_as_it_holds(rt: HostRuntime) {
     assert_eq!(rt; list.get(0), Some(7));
     assert_eq!(rt; list.get(1), Some(5));
     assert_eq!(rt; list.get(2), None);
-    assert_eq!(rt; list.as_slice(), &[7, 5]);
+    assert_eq!(rt; list.as_slice(), [7u8, 5].as_slice());
 }
 
 // Whether a list of at most three items is made of these.
