@@ -9,7 +9,7 @@ use Rattle.terms.specs.declared.refusals.Refusal.{Refusal}
 use Rattle.models.specs.Meanings.{Meaning, fault_of, interpretation}
 use Rattle.models.specs.Semantics.{Contradicts, Interpretation, IsIn, LowestContradiction, Models, Subsumes, of_tests}
 use Rattle.calculus.specs.Events.{Event, Takes, Well, ask, close, core, enter_axiom, enter_inclusion, grown, hyper, open_context, pred, refute}
-use Rattle.calculus.specs.Law.{EveryPast, Gives, Had, KeepsLaw, Law, Moment, Past, Said, before, called, left, now, taken}
+use Rattle.calculus.specs.Law.{EveryPast, Gives, Had, KeepsLaw, Law, Moment, OneRegister, Past, Said, before, called, left, now, taken}
 use Rattle.calculus.specs.Register.{Register}
 use Rattle.calculus.specs.Replies.{after, reply}
 use Rattle.calculus.specs.declared.answers.Answer.{Answer}
@@ -105,9 +105,11 @@ module _ (p : Past) (R : Register) (had : Had p R) where
       let models : Models (interpretation m) S.book.axioms = subst (Models (interpretation m)) (sym from-t.axioms ∙ from-s.axioms) refuted.2 in
       not_both (interpretation m) K M x (shows s q S.book K M n at-s g is-s a (interpretation m) models) refuted.3.0
 
+  pub registered : OneRegister p
+  registered s q m = let t = at_moment p R s q had m in (t.book, had_gives q t.book t.had, λ S g. no_other q S t.book g (had_gives q t.book t.had))
+
   pub lawful : Law p
   lawful = record {
-    one_register = λ s q m. let t = at_moment p R s q had m in (t.book, had_gives q t.book t.had, λ S g. no_other q S t.book g (had_gives q t.book t.had));
     shown_holds = λ s q Q K M n m g is a T. shows s q Q K M n m g is a (of_tests T);
     refuted_exactly = refutes;
     never_both = both_never;
@@ -126,4 +128,5 @@ every_past = record { lawful = lawful; one_register = had_gives; no_other = no_o
 pub keeps_law : (R S : Register) (e : Event) (r : Result Answer Refusal) → Well e → r ≡ reply R e → S ≡ after R e → KeepsLaw R e r S
 keeps_law R S e r well answer change p had =
     let more = called (record { call = e; answer = r }) S had well answer change in
-    (more, lawful (record { call = e; answer = r } ∷ p) S more)
+    let q = record { call = e; answer = r } ∷ p in
+    (more, lawful q S more, registered q S more)

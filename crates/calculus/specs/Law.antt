@@ -30,8 +30,6 @@ pub data Moment (s : Said) (q : Past) : Past → Type 0 where
   before : {p : Past} (t : Said) → Moment s q p → Moment s q (t ∷ p)
 
 pub record Law (p : Past) : Type 0 where
-  -- the calls before any moment have exactly one register
-  pub one_register : (s : Said) (q : Past) → Moment s q p → (R : Register) × Gives q R × ((S : Register) → Gives q S → S ≡ R)
   -- what is shown holds in every interpretation, finite or infinite, that satisfies the axioms
   pub shown_holds : (s : Said) (q : Past) (R : Register) (K M : List ℕ) (n : ℕ) → Moment s q p → Gives q R → s.call ≡ ask K M → s.answer ≡ Ok (Shown n)
       → (T : Tests) → Models (of_tests T) R.axioms → Subsumes (of_tests T) K M
@@ -55,9 +53,14 @@ pub data Had : Past → Register → Type 0 where
   new : Had [] empty
   called : {p : Past} {R : Register} (s : Said) (S : Register) → Had p R → Well s.call → s.answer ≡ reply R s.call → S ≡ after R s.call → Had (s ∷ p) S
 
--- whatever past a book came by, it came by that past and this call to what it then holds, and the law holds of the longer past
+-- the calls before any moment have exactly one register
+abbrev pub OneRegister : Past → Type 0
+OneRegister p = (s : Said) (q : Past) → Moment s q p → (R : Register) × Gives q R × ((S : Register) → Gives q S → S ≡ R)
+
+-- whatever past a book came by, it came by that past and this call to what it then holds; the law holds of the longer past, and each of its
+-- moments has one register
 abbrev pub KeepsLaw : Register → Event → Result Answer Refusal → Register → Type 0
-KeepsLaw R e r S = (p : Past) → Had p R → Had (record { call = e; answer = r } ∷ p) S × Law (record { call = e; answer = r } ∷ p)
+KeepsLaw R e r S = (p : Past) → Had p R → let q = record { call = e; answer = r } ∷ p in Had q S × Law q × OneRegister q
 
 -- the law holds of every past of every book, and every past has one register
 pub record EveryPast : Type 0 where

@@ -1,7 +1,9 @@
 -- What the tests on lists, the join and the removal mean for sets, under a total order. Assumes nothing.
 use Rattle.std.proofs.Common.{◌≡◌, ◌+◌, ◌≤◌, Bool, true, false, cond, ◌⊎◌, List, [], ◌∷◌, length, Decides, sym, refl, ◌∙◌, subst, inl, inr, ⊎_elim, arith}
-use Rattle.std.proofs.lemmas.Bool.{and_parts, and_from, not-true, not_from_false, or_cases, or_left, or_right, both_ways, true≢false}
+use Rattle.std.proofs.lemmas.Bool.{and_parts, and_from, or_cases, or_left, or_right, both_ways, true≢false}
+use Rattle.std.proofs.lemmas.Bool.Decides.{Decides-at}
 use Rattle.terms.specs.Lists.{◌∈◌, IsRemoval, IsUnion, SameItems, Subset, TotalOrder, alike, contained, equal, leads, member, removal, rising, union, union_from}
+use Rattle.terms.specs.Positions.{alike_decides_sameness}
 
 cons_same : {X : Type 0} {x y : X} {xs ys : List X} → x ≡ y → xs ≡ ys → (x ∷ xs) ≡ (y ∷ ys)
 cons_same d e = cc
@@ -85,13 +87,13 @@ module _ {X : Type 0} (lt : X → X → Bool) where
 
   module _ (o : TotalOrder lt) where
     pub alike_same : (x y : X) → alike lt x y ≡ true → x ≡ y
-    alike_same x y h = o.total x y (not-true _ (and_parts _ _ h).0) (not-true _ (and_parts _ _ h).1)
+    alike_same x y = (alike_decides_sameness lt o x y).0
 
     pub alike_refl : (x : X) → alike lt x x ≡ true
-    alike_refl x = let n = not_from_false _ (o.irreflexive x) in and_from _ _ n n
+    alike_refl x = (alike_decides_sameness lt o x x).1 refl
 
     pub alike_decides : (r : Bool) (x y : X) → r ≡ alike lt x y → Decides r (x ≡ y)
-    alike_decides r x y e = (λ h. alike_same x y (sym e ∙ h), λ h. e ∙ subst (λ w. alike lt x w ≡ true) h (alike_refl x))
+    alike_decides r x y e = Decides-at r (alike lt x y) e (alike_decides_sameness lt o x y)
 
     -- ---- membership and containment
 

@@ -42,5 +42,5 @@ xor_below E h = xor_lt 6 E 1 h (omega arith)
 pub role_same : (E F : Role) → E.code ≡ F.code → E ≡ F
 role_same E F p = λ i. record { code = p i; ok = is_prop→PathP (λ j. suc (p j) ≤ 64) (λ j. le_prop) E.ok F.ok i }
 
-pub role_Decides : (E F : Role) → Decides (E.code == F.code) (E ≡ F)
-role_Decides E F = Decides-like _ (role_same E F) (ap (λ (x : Role). x.code)) (Decides-eqb E.code F.code)
+pub role_decides : (E F : Role) → Decides (E.code == F.code) (E ≡ F)
+role_decides E F = Decides-like _ (role_same E F) (ap (λ (x : Role). x.code)) (Decides-eqb E.code F.code)

@@ -11,8 +11,8 @@ use Rattle.terms.specs.Codes.{role_same}
 
 -- ---- any order
 
-pub alike_Decides : {X : Type 0} (lt : X → X → Bool) → TotalOrder lt → (x y : X) → Decides (alike lt x y) (x ≡ y)
-alike_Decides lt o x y = (
+pub alike_decides_sameness : {X : Type 0} (lt : X → X → Bool) → TotalOrder lt → (x y : X) → Decides (alike lt x y) (x ≡ y)
+alike_decides_sameness lt o x y = (
   λ h. o.total x y (not-true _ (and_parts _ _ h).0) (not-true _ (and_parts _ _ h).1),
   λ e. let n = not_from_false _ (o.irreflexive x) in subst (λ w. alike lt x w ≡ true) e (and_from _ _ n n),
 )
@@ -90,8 +90,8 @@ total (Forall E A) (Forall F B) p q =
 pub literal_order : TotalOrder literal_precedes
 literal_order = record { irreflexive = irreflexive; transitive = transitive; total = total }
 
-pub literal_alike_Decides : (x y : Literal) → Decides (alike literal_precedes x y) (x ≡ y)
-literal_alike_Decides = alike_Decides literal_precedes literal_order
+pub literal_alike_decides : (x y : Literal) → Decides (alike literal_precedes x y) (x ≡ y)
+literal_alike_decides = alike_decides_sameness literal_precedes literal_order
 
 -- ---- positions
 

@@ -66,8 +66,8 @@ refusal_reported-reported (MemoryTooShort a) = refl
 pub same_report : (x y : Refusal) → reported x ≡ reported y → x ≡ y
 same_report x y e = sym (refusal_reported-reported x) ∙ ap refusal_reported e ∙ refusal_reported-reported y
 
-pub reported_alike_Decides : (x y : Refusal) → Decides (reported_alike x y) (x ≡ y)
-reported_alike_Decides x y = (
+pub reported_alike_decides : (x y : Refusal) → Decides (reported_alike x y) (x ≡ y)
+reported_alike_decides x y = (
   λ h. let p = and_parts _ _ h in
       let q = and_parts _ _ p.0 in
       let a = eqb-true _ _ q.0 in

@@ -4,7 +4,7 @@ ghost use Rattle.terms.specs.Limits.{literal_positions};
 ghost use Rattle.terms.specs.Literals.{InRange, literal_precedes, position};
 ghost use Rattle.terms.specs.declared.literals.Literal.{Literal};
 ghost use Rattle.terms.specs.Lists.{alike};
-ghost use Rattle.terms.specs.Positions.{literal_order, literal_alike_Decides};
+ghost use Rattle.terms.specs.Positions.{literal_order, literal_alike_decides};
 ghost use Rattle.std.specs.Cmp as Keys;
 
 use crate::order::Ordered;
@@ -59,7 +59,7 @@ impl Ordered for Literal {
 impl PartialEq for Literal {
     ghost eq = { alike literal_precedes };
 
-    ghost laws = { Keys.partial_equiv_from_equiv (Keys.decided (alike literal_precedes) literal_alike_Decides) };
+    ghost laws = { Keys.partial_equiv_from_equiv (Keys.decided (alike literal_precedes) literal_alike_decides) };
 
     fn eq(&self, other: &Literal) -> bool
         ensures value { result ≡ alike literal_precedes self.now other.now }
@@ -70,7 +70,7 @@ impl PartialEq for Literal {
 }
 
 impl Eq for Literal {
-    ghost laws = { Keys.decided (alike literal_precedes) literal_alike_Decides };
+    ghost laws = { Keys.decided (alike literal_precedes) literal_alike_decides };
 }
 
 impl fmt::Display for Literal {

@@ -1,7 +1,7 @@
 // Why a call was refused. Each cause has a number and up to two values, A and B, which docs/REFUSALS.md lists.
 ghost use Rattle.std.specs.Prelude.{◌≡◌, Decides};
 ghost use Rattle.terms.specs.Refusals.{first_value, number, second_value};
-ghost use Rattle.terms.specs.Reported.{reported_alike, reported_alike_Decides};
+ghost use Rattle.terms.specs.Reported.{reported_alike, reported_alike_decides};
 ghost use Rattle.std.specs.Cmp as Keys;
 
 use std::error::Error;
@@ -138,7 +138,7 @@ impl Refusal {
 impl PartialEq for Refusal {
     ghost eq = { reported_alike };
 
-    ghost laws = { Keys.partial_equiv_from_equiv (Keys.decided reported_alike reported_alike_Decides) };
+    ghost laws = { Keys.partial_equiv_from_equiv (Keys.decided reported_alike reported_alike_decides) };
 
     fn eq(&self, other: &Refusal) -> bool
         ensures value { result ≡ reported_alike self.now other.now }
@@ -151,7 +151,7 @@ impl PartialEq for Refusal {
 }
 
 impl Eq for Refusal {
-    ghost laws = { Keys.decided reported_alike reported_alike_Decides };
+    ghost laws = { Keys.decided reported_alike reported_alike_decides };
 }
 
 impl fmt::Debug for Refusal {

@@ -2,7 +2,7 @@ ghost use Rattle.std.specs.Prelude.{◌≡◌, ◌*◌, ◌<◌, ◌==◌, not, 
 ghost use Rattle.std.specs.Ordering.{on};
 ghost use Rattle.terms.specs.Limits.{role_codes, role_names};
 ghost use Rattle.terms.specs.Roles.{RoleOrRefusal, backwards, mirror, name_of};
-ghost use Rattle.terms.specs.Codes.{role_Decides};
+ghost use Rattle.terms.specs.Codes.{role_decides};
 ghost use Rattle.std.specs.Cmp as Keys;
 
 use super::{ROLE_CODES, ROLE_NAMES, Role};
@@ -62,7 +62,7 @@ impl Role {
 impl PartialEq for Role {
     ghost eq = { on (λ v. v.code) nat_eq };
 
-    ghost laws = { Keys.partial_equiv_from_equiv (Keys.decided (on (λ v. v.code) nat_eq) role_Decides) };
+    ghost laws = { Keys.partial_equiv_from_equiv (Keys.decided (on (λ v. v.code) nat_eq) role_decides) };
 
     fn eq(&self, other: &Role) -> bool
         ensures value { result ≡ self.now.code == other.now.code }
@@ -73,5 +73,5 @@ impl PartialEq for Role {
 }
 
 impl Eq for Role {
-    ghost laws = { Keys.decided (on (λ v. v.code) nat_eq) role_Decides };
+    ghost laws = { Keys.decided (on (λ v. v.code) nat_eq) role_decides };
 }
