@@ -6,7 +6,7 @@ mod asking;
 mod charting;
 mod checks;
 mod clauses;
-mod core;
+mod core_step;
 mod entry;
 mod hyper;
 mod offer;
