@@ -17,7 +17,7 @@ call_as Close f scratch m = close
 call_as Context f scratch m = open_context (held f.concepts.list)
 call_as Core f scratch m = core f.context f.concept scratch
 call_as Hyper f scratch m = hyper f.context f.number (held f.premises.list) (held f.claim.list) scratch
-call_as Pred f scratch m = pred f.context f.first f.role f.concept (held f.sides) f.far (held f.claim.list) scratch
+call_as Pred f scratch m = pred f.context f.first f.role f.concept (held f.sides.list) f.far (held f.claim.list) scratch
 call_as Ask f scratch m = ask (held f.concepts.list) (held f.others.list)
 call_as Refute f scratch m = refute (held f.concepts.list) (held f.others.list) m
 

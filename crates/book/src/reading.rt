@@ -1,7 +1,5 @@
 // What a host can read of a book.
 ghost use Rattle.std.specs.Prelude.{◌≡◌, map};
-ghost use Rattle.std.specs.List.{slice_get};
-ghost use Rattle.std.specs.Option.{option_map};
 ghost use Rattle.terms.specs.Shorts.{held};
 ghost use Rattle.models.specs.Charts.{sentence_of};
 ghost use Rattle.book.specs.Contents.{clause_of, contents};
@@ -13,6 +11,7 @@ use models::Axiom;
 use terms::Short;
 
 impl Book {
+    /// Whether the book is closed, and so takes contexts, steps and questions.
     pub fn is_closed(&self) -> bool
         ensures { result ≡ (contents self.now).closed }
     {

@@ -11,8 +11,8 @@ use forms::limits::{AXIOM_LIMIT, CLAUSE_LIMIT, CONTEXT_LIMIT, LIST_LIMIT};
 use models::Axiom;
 use terms::{Reach, Short};
 
-// The axioms of a chart, the contexts opened and the clauses entered, each numbered from 0 in the order of entry. The table of reach shows
-// the inclusions among the axioms.
+/// The axioms of a chart, the contexts opened and the clauses entered, each numbered from 0 in the order of entry. The table of reach shows
+/// the inclusions among the axioms.
 #[derive(Drop)]
 pub struct Book {
     pub(crate) phase: Phase,

@@ -1,4 +1,5 @@
-// What is proved of the rules: they yield what is true, and a step passes its checks exactly when its rule yields its claim.
+// What is proved of the rules and the replies: the rules yield what is true, a step passes its checks exactly when its rule yields its claim, and
+// the law of every past holds of the replies.
 ghost use Rattle.calculus.specs.Exactness.{StepsExact};
 ghost use Rattle.calculus.specs.Law.{EveryPast, ShownHolds};
 ghost use Rattle.calculus.specs.Truth.{RulesHold};

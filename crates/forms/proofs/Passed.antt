@@ -17,9 +17,14 @@ passed_by : {A : Type 0} (b : Bool) (e : A) (x : Option A) → cond b x (Some e)
 passed_by true e x h = (refl, h)
 passed_by false e x h = absurd (some_none e h)
 
-both_none : (a b : Option Refusal) → first_refusal a b ≡ None → (a ≡ None) × (b ≡ None)
+pub both_none : (a b : Option Refusal) → first_refusal a b ≡ None → (a ≡ None) × (b ≡ None)
 both_none (Some e) b h = absurd (some_none e h)
 both_none None b h = (refl, h)
+
+pub in_map : {X Y : Type 0} (f : X → Y) (x : X) (xs : List X) → x ∈ xs → f x ∈ map f xs
+in_map f x [] m = absurd m
+in_map f x (y ∷ xs) (inl e) = inl (ap f e)
+in_map f x (y ∷ xs) (inr m) = inr (in_map f x xs m)
 
 pub in_range : (limit n : ℕ) → range_refusal limit n ≡ None → n < limit
 in_range limit n h = ltb-true n limit (passed_by (ltb n limit) _ None h).0

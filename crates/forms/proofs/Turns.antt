@@ -1,6 +1,6 @@
 -- One turn of the loop over the numbers of a list: what is left decides. Assumes nothing.
-use Rattle.std.proofs.Common.{◌≡◌, ℕ, ◌+◌, ◌-◌, ◌<◌, ◌≤◌, Bool, true, false, eqb, List, [], ◌∷◌, map, length, get_or, take, drop, Some, None, Option, sym, ap, ◌∙◌}
-use Rattle.std.proofs.lemmas.List.{drop_more, length-map, length-take-le}
+use Rattle.std.proofs.Common.{◌≡◌, ℕ, ◌-◌, ◌≤◌, Bool, true, false, eqb, List, [], ◌∷◌, map, length, take, Some, None, Option, sym, ap, ◌∙◌}
+use Rattle.std.proofs.lemmas.List.{length-map, length-take-le}
 use Rattle.std.proofs.lemmas.Bool.{cond-false, cond-true}
 use Rattle.terms.specs.declared.refusals.Refusal.{Refusal}
 use Rattle.terms.specs.declared.refusals.Refusal.TheVariants.{NotRising, TooLong}
@@ -32,10 +32,6 @@ module _ {Y : Type 0} (refused : Y → Option Refusal) (follows : Y → Y → Bo
 
     pub goes_on : eqb room 0 ≡ false → refused y ≡ None → may_stand follows last y ≡ true → items_refusal refused follows (room - 1) (Some y) rest ≡ whole
     goes_on free inside high = sym (opened ∙ cond-false _ _ _ free ∙ first_none _ _ inside ∙ cond-true _ _ _ high)
-
--- what is left of xs at i, where x was read
-pub drop_read : {X : Type 0} (xs : List X) (i : ℕ) (x : X) → i < length xs → x ≡ get_or xs i x → drop i xs ≡ x ∷ drop (i + 1) xs
-drop_read xs i x within read = drop_more xs i x within ∙ ap (λ y. y ∷ drop (i + 1) xs) (sym read)
 
 -- as many are held as were read
 pub as_many : {X Y : Type 0} (f : X → Y) (held : List X) (xs : List Y) (i : ℕ) → i ≤ length xs → map f held ≡ take i xs → length held ≡ i

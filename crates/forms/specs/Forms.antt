@@ -18,7 +18,7 @@ said_as Context f = context_form (held f.concepts.list)
 said_as Core f = core_form f.context f.concept
 said_as Hyper f = hyper_form f.context f.number (held f.premises.list) (map literal_numbers (held f.claim.list))
 said_as Pred f =
-    pred_form f.context f.first f.role.code f.concept (map side_numbers (held f.sides)) f.far (map literal_numbers (held f.claim.list))
+    pred_form f.context f.first f.role.code f.concept (map side_numbers (held f.sides.list)) f.far (map literal_numbers (held f.claim.list))
 said_as Ask f = ask_form (held f.concepts.list) (held f.others.list)
 said_as Refute f = refute_form (held f.concepts.list) (held f.others.list)
 
@@ -39,4 +39,4 @@ pub record Blank (f : Form) : Type 0 where
   pub numbers : (f.context ≡ 0) × (f.number ≡ 0) × (f.first ≡ 0) × (f.far ≡ 0) × (f.concept ≡ 0)
   pub roles : (f.role.code ≡ 0) × (f.upper.code ≡ 0)
   pub sides_implied : axiom_numbers f.implied ≡ ([], [])
-  pub lists : (held f.concepts.list ≡ []) × (held f.others.list ≡ []) × (held f.premises.list ≡ []) × (held f.sides ≡ []) × (held f.claim.list ≡ [])
+  pub lists : (held f.concepts.list ≡ []) × (held f.others.list ≡ []) × (held f.premises.list ≡ []) × (held f.sides.list ≡ []) × (held f.claim.list ≡ [])

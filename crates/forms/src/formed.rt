@@ -1,13 +1,11 @@
 // A form. The struct stands apart, so that files of specs/ can name it; its methods are in the modules below.
-ghost use Rattle.std.specs.Prelude.{◌≡◌, ◌<◌};
+ghost use Rattle.std.specs.Prelude.{◌<◌};
 ghost use Rattle.forms.specs.Limits.{clause_limit, context_limit};
 
 use crate::kinds::Kind;
-use crate::limits::LIST_LIMIT;
-use crate::rising::{Claim, Concepts, Premises};
-use crate::sides::Side;
+use crate::rising::{Claim, Concepts, Premises, Sides};
 use models::ConceptAxiom;
-use terms::{Role, Short};
+use terms::Role;
 
 pub mod making;
 pub mod parts;
@@ -27,7 +25,7 @@ pub struct Form {
     concepts: Concepts,
     others: Concepts,
     premises: Premises,
-    sides: Short<Side, LIST_LIMIT>,
+    sides: Sides,
     claim: Claim,
     ghost context_in_range: { context < context_limit },
     ghost first_in_range: { first < clause_limit },

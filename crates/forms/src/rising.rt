@@ -4,8 +4,10 @@ ghost use Rattle.terms.specs.Lists.{◌∈◌, rising};
 ghost use Rattle.terms.specs.Literals.{literal_precedes};
 ghost use Rattle.terms.specs.Shorts.{held};
 ghost use Rattle.forms.specs.Limits.{clause_limit};
+ghost use Rattle.forms.specs.declared.sides.Side.{Side};
 
 use crate::limits::{HEAD_LIMIT, LIST_LIMIT};
+use crate::sides::Side;
 use terms::{Literal, Short};
 
 pub mod methods;
@@ -29,4 +31,11 @@ pub struct Claim {
 pub struct Premises {
     list: Short<u16, LIST_LIMIT>,
     ghost in_range: { (n : ℕ) → n ∈ held list → n < clause_limit },
+}
+
+/// At most 8 sides, each of which names a clause below 512.
+#[derive(Clone, Copy)]
+pub struct Sides {
+    list: Short<Side, LIST_LIMIT>,
+    ghost in_range: { (s : Side) → s ∈ held list → s.clause < clause_limit },
 }

@@ -1,7 +1,4 @@
-// A side of a pred step. The struct stands apart, so that files of specs/ can name it; its methods are in the module below.
-ghost use Rattle.std.specs.Prelude.{◌<◌};
-ghost use Rattle.forms.specs.Limits.{clause_limit};
-
+// A side of a pred step. Its methods are in the module below.
 use terms::Role;
 
 pub mod methods;
@@ -12,5 +9,4 @@ pub struct Side {
     clause: u16,
     role: Role,
     concept: u8,
-    ghost in_range: { clause < clause_limit },
 }

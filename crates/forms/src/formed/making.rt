@@ -12,10 +12,9 @@ use crate::lists::list_of;
 use crate::numbered::Numbered;
 use crate::numbering::{axiom_of, clause_of, context_of, role_of, role_zero};
 use crate::numbers::{LiteralNumbers, SideNumbers};
-use crate::rising::{Claim, Concepts, Premises};
-use crate::sides::Side;
+use crate::rising::{Claim, Concepts, Premises, Sides};
 use models::ConceptAxiom;
-use terms::{Literal, Refusal, Role, Short};
+use terms::{Literal, Refusal};
 
 // The axiom that these numbers state.
 fn implied_of(left: &[u32], right: &[LiteralNumbers]) -> Result<ConceptAxiom, Refusal>
@@ -55,7 +54,7 @@ impl Form {
             concepts: Concepts::none(),
             others: Concepts::none(),
             premises: Premises::none(),
-            sides: Short::new(Side::filler()),
+            sides: Sides::none(),
             claim: Claim::none(),
         }
     }
@@ -148,7 +147,7 @@ impl Form {
         let first = clause_of(p)?;
         let role = role_of(e)?;
         let concept = u8::from_numbers(a)?;
-        let sides = list_of(sides, Side::filler())?;
+        let sides = Sides::new(sides)?;
         let far = clause_of(q)?;
         let claim = Claim::new(claim)?;
         let mut form = Form::blank(Kind::Pred);

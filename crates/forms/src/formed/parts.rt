@@ -98,9 +98,9 @@ impl Form {
 
     /// The sides of a pred step.
     pub fn sides(&self) -> &Short<Side, LIST_LIMIT>
-        ensures { result.now ≡ self.now.sides }
+        ensures { result.now ≡ self.now.sides.list }
     {
-        &self.sides
+        self.sides.list()
     }
 
     /// The head that a hyper or pred step is claimed to yield.

@@ -2,12 +2,13 @@ ghost use Rattle.std.specs.Prelude.{◌≡◌, [], map};
 ghost use Rattle.terms.specs.Shorts.{held};
 ghost use Rattle.forms.specs.Items.{MadeOrRefused};
 ghost use Rattle.forms.specs.Limits.{head_limit};
-ghost use Rattle.forms.specs.Numbers.{clauses_refusal, concepts_refusal, literal_numbers, literals_refusal};
+ghost use Rattle.forms.specs.Numbers.{clauses_refusal, concepts_refusal, literal_numbers, literals_refusal, side_numbers, sides_refusal};
 
-use super::{Claim, Concepts, Premises};
+use super::{Claim, Concepts, Premises, Sides};
 use crate::limits::{HEAD_LIMIT, LIST_LIMIT};
 use crate::lists::list_of;
-use crate::numbers::LiteralNumbers;
+use crate::numbers::{LiteralNumbers, SideNumbers};
+use crate::sides::Side;
 use terms::{Literal, Refusal, Short};
 
 impl Concepts {
@@ -79,6 +80,31 @@ impl Premises {
     }
 
     pub fn list(&self) -> &Short<u16, LIST_LIMIT>
+        ensures { result.now ≡ self.now.list }
+    {
+        &self.list
+    }
+}
+
+impl Sides {
+    /// The list that these numbers state.
+    pub fn new(stated: &[SideNumbers]) -> Result<Sides, Refusal>
+        ensures { MadeOrRefused (λ s. map side_numbers (held s.list)) sides_refusal stated.now result }
+    {
+        let list = list_of(stated, Side::filler())?;
+        Ok(Sides { list })
+    }
+
+    /// The empty list.
+    pub fn none() -> Sides
+        ensures { held result.list ≡ [] }
+    {
+        Sides {
+            list: Short::new(Side::filler()),
+        }
+    }
+
+    pub fn list(&self) -> &Short<Side, LIST_LIMIT>
         ensures { result.now ≡ self.now.list }
     {
         &self.list

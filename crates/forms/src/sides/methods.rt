@@ -1,6 +1,5 @@
-ghost use Rattle.std.specs.Prelude.{◌≡◌, ◌<◌, true};
+ghost use Rattle.std.specs.Prelude.{◌≡◌, true};
 ghost use Rattle.terms.specs.declared.literals.Literal.TheVariants.{Forall};
-ghost use Rattle.forms.specs.Limits.{clause_limit};
 ghost use Rattle.forms.specs.Numbers.{side_numbers, side_refused};
 
 use super::Side;
@@ -21,10 +20,9 @@ impl Side {
         }
     }
 
-    /// The number of the clause, below 512.
+    /// The number of the clause.
     pub fn clause(self) -> u16
-        ensures value { result ≡ self.clause }
-        ensures range { result < clause_limit }
+        ensures { result ≡ self.clause }
     {
         self.clause
     }

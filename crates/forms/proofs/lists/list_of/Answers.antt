@@ -5,7 +5,8 @@ use Rattle.std.proofs.lemmas.Bool.{cond-true, eq-eqb, lt-ltb, ne_eqb}
 use Rattle.std.specs.Option.{option_map}
 use Rattle.terms.specs.Shorts.{held}
 use Rattle.forms.specs.Items.{may_stand}
-use Rattle.forms.proofs.Turns.{as_many, at_end, drop_read, falls, goes_on, outside, too_many}
+use Rattle.forms.proofs.Turns.{as_many, at_end, falls, goes_on, outside, too_many}
+use Rattle.terms.proofs.Turns.{drop_read}
 use Rattle.forms.proofs.lists.list_of.Goals as goal
 
 pub returns-then-len : goal.returns-then-len

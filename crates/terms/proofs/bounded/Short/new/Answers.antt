@@ -1,6 +1,6 @@
-use Rattle.std.proofs.Common.{zero-le}
+use Rattle.std.proofs.Common.{arith}
 use lib.ListN.{length-replicate}
 use Rattle.terms.proofs.bounded.Short.new.Goals as goal
 
 pub invariant_of-result : goal.invariant_of-result
-invariant_of-result g c = record { few = zero-le; full = length-replicate g.row.N c.args.filler }
+invariant_of-result g c = record { few = omega arith; full = length-replicate g.row.N c.args.filler }

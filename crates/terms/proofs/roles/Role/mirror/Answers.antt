@@ -1,10 +1,11 @@
-use Rattle.std.proofs.Common.{ap, ◌∙◌}
+use Rattle.std.proofs.Common.{ap, ◌∙◌, arith}
+use Rattle.std.proofs.lemmas.Nat.{xor_lt}
 use Rattle.terms.specs.Roles.{backwards, mirror, name_of}
-use Rattle.terms.specs.Codes.{mirror_name, mirror_twice, mirror_way, xor_below, xor_mirror}
+use Rattle.terms.specs.Codes.{mirror_name, mirror_twice, mirror_way, xor_mirror}
 use Rattle.terms.proofs.roles.Role.mirror.Goals as goal
 
 pub invariant_of-result : goal.invariant_of-result
-invariant_of-result c = record { ok = xor_below c.args.self.code c.args.self.ok }
+invariant_of-result c = record { ok = xor_lt 6 c.args.self.code _ c.args.self.ok (omega arith) }
 
 pub returns : goal.returns
 returns c =
