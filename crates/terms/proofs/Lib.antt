@@ -3,4 +3,4 @@ pub mod Fronts
 pub mod Rows
 pub mod Sets
 pub mod Turns
-pub mod Weights
+pub mod Bits

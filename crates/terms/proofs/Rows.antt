@@ -7,7 +7,7 @@ use Rattle.terms.specs.Reaching.{Inclusion, both_ways_round, way}
 use Rattle.terms.specs.Roles.{mirror}
 use Rattle.terms.proofs.Chains.{listed_last}
 use Rattle.terms.specs.Codes.{mirror_below}
-use Rattle.terms.proofs.Weights.{one_weight, extended_weight}
+use Rattle.terms.proofs.Bits.{one_weight, extended_weight}
 
 -- the rows tell where a way leads
 abbrev Tells : List ℕ → List Inclusion → Type 0

@@ -10,3 +10,4 @@ pub mod Writing
 pub mod Positions
 pub mod Codes
 pub mod Reported
+pub mod Exact

@@ -3,14 +3,19 @@
 #![tactic(auto)]
 
 pub mod bounded;
+pub mod exact;
+pub mod full;
 pub mod lists;
 pub mod literals;
 pub mod order;
 pub mod reaching;
 pub mod refusals;
 pub mod roles;
+pub mod weights;
 
 pub use bounded::Short;
+pub use exact::Exact;
+pub use full::Full;
 pub use literals::Literal;
 pub use order::Ordered;
 pub use reaching::Reach;

@@ -1,11 +1,9 @@
 // Literals, in the order of their positions.
-ghost use Rattle.std.specs.Prelude.{◌≡◌, ◌<◌, Decides, nat_lt};
+ghost use Rattle.std.specs.Prelude.{◌≡◌, ◌<◌, nat_lt};
 ghost use Rattle.terms.specs.Limits.{literal_positions};
 ghost use Rattle.terms.specs.Literals.{InRange, literal_precedes, position};
 ghost use Rattle.terms.specs.declared.literals.Literal.{Literal};
-ghost use Rattle.terms.specs.Lists.{alike};
-ghost use Rattle.terms.specs.Positions.{literal_order, literal_alike_decides};
-ghost use Rattle.std.specs.Cmp as Keys;
+ghost use Rattle.terms.specs.Positions.{literal_order};
 
 use crate::order::Ordered;
 use crate::roles::Role;
@@ -20,7 +18,7 @@ const FIRST_EXISTS: u32 = 256;
 const FIRST_FORALL: u32 = 16_640;
 
 /// A concept A; `some E A`, what has a filler of E in A; or `all E A`, what has all its fillers of E in A.
-#[derive(Clone, Copy, Debug)]
+#[derive(Clone, Copy, Debug, PartialEq, Eq)]
 pub enum Literal {
     Concept(u8),
     Exists(Role, u8),
@@ -56,35 +54,12 @@ impl Ordered for Literal {
     }
 }
 
-impl PartialEq for Literal {
-    ghost eq = { alike literal_precedes };
-
-    ghost laws = { Keys.partial_equiv_from_equiv (Keys.decided (alike literal_precedes) literal_alike_decides) };
-
-    fn eq(&self, other: &Literal) -> bool
-        ensures value { result ≡ alike literal_precedes self.now other.now }
-        ensures decides { Decides result (self.now ≡ other.now) }
-    {
-        self.same(other)
-    }
-}
-
-impl Eq for Literal {
-    ghost laws = { Keys.decided (alike literal_precedes) literal_alike_decides };
-}
-
 impl fmt::Display for Literal {
     fn fmt<W: fmt::Write>(&self, f: &mut fmt::Formatter<W>) -> fmt::Result {
         match *self {
             Literal::Concept(a) => write!(f, "{a}"),
-            Literal::Exists(e, a) => {
-                let role = e.code();
-                write!(f, "(some {role} {a})")
-            }
-            Literal::Forall(e, a) => {
-                let role = e.code();
-                write!(f, "(all {role} {a})")
-            }
+            Literal::Exists(e, a) => write!(f, "(some {e} {a})"),
+            Literal::Forall(e, a) => write!(f, "(all {e} {a})"),
         }
     }
 }

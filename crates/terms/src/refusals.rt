@@ -1,13 +1,11 @@
 // Why a call was refused. Each cause has a number and up to two values, A and B, which docs/REFUSALS.md lists.
-ghost use Rattle.std.specs.Prelude.{◌≡◌, Decides};
+ghost use Rattle.std.specs.Prelude.{◌≡◌};
 ghost use Rattle.terms.specs.Refusals.{first_value, number, second_value};
-ghost use Rattle.terms.specs.Reported.{reported_alike, reported_alike_decides};
-ghost use Rattle.std.specs.Cmp as Keys;
 
 use std::error::Error;
 use std::fmt;
 
-#[derive(Clone, Copy)]
+#[derive(Clone, Copy, Debug, PartialEq, Eq)]
 pub enum Refusal {
     /// 1: the byte at this offset is wrong or missing.
     WrongByte { at: usize },
@@ -131,34 +129,6 @@ impl Refusal {
             Refusal::NoneContradicts => (0, 0),
             Refusal::MemoryTooShort { needed } => (needed, 0),
         }
-    }
-}
-
-// A refusal is known by its number and values.
-impl PartialEq for Refusal {
-    ghost eq = { reported_alike };
-
-    ghost laws = { Keys.partial_equiv_from_equiv (Keys.decided reported_alike reported_alike_decides) };
-
-    fn eq(&self, other: &Refusal) -> bool
-        ensures value { result ≡ reported_alike self.now other.now }
-        ensures decides { Decides result (self.now ≡ other.now) }
-    {
-        let (first, second) = self.values();
-        let (other_first, other_second) = other.values();
-        self.number() == other.number() && first == other_first && second == other_second
-    }
-}
-
-impl Eq for Refusal {
-    ghost laws = { Keys.decided reported_alike reported_alike_decides };
-}
-
-impl fmt::Debug for Refusal {
-    fn fmt<W: fmt::Write>(&self, f: &mut fmt::Formatter<W>) -> fmt::Result {
-        let number = self.number();
-        let (first, second) = self.values();
-        write!(f, "Refusal({number}, {first}, {second})")
     }
 }
 

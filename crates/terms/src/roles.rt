@@ -11,7 +11,7 @@ pub const ROLE_NAMES: u8 = 32;
 pub const ROLE_CODES: u8 = 64;
 
 /// A role code: 2 × n for the role name n read forwards, 2 × n + 1 for n read backwards.
-#[derive(Clone, Copy, Debug)]
+#[derive(Clone, Copy, Debug, PartialEq, Eq)]
 pub struct Role {
     code: u8,
     ghost ok: { code < role_codes },

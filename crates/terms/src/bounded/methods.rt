@@ -1,8 +1,9 @@
-ghost use Rattle.std.specs.Prelude.{◌≡◌, ◌<◌, ◌≤◌, [], ◌∷◌, ◌++◌, length, if◌then◌else◌, MatchOption, nat_lt};
+ghost use Rattle.std.specs.Prelude.{◌≡◌, ◌<◌, ◌≤◌, [], ◌∷◌, ◌++◌, length, if◌then◌else◌, MatchOption, is_ok};
 ghost use Rattle.std.specs.List.{slice_get};
-ghost use Rattle.terms.specs.Shorts.{held};
+ghost use Rattle.terms.specs.Shorts.{held, place_or_full};
 
 use super::Short;
+use crate::full::Full;
 
 impl<T: Copy, const N: usize> Short<T, N> {
     /// The empty list. The filler stands in places that hold nothing, and is never seen.
@@ -21,9 +22,7 @@ impl<T: Copy, const N: usize> Short<T, N> {
     {
         let mut list = Short::new(filler);
         for item in items {
-            if !list.push(*item) {
-                return None;
-            }
+            list.push(*item).ok()?;
         }
         Some(list)
     }
@@ -39,32 +38,26 @@ impl<T: Copy, const N: usize> Short<T, N> {
         ensures value { result.now ≡ held self.now }
         ensures few { length result.now ≤ N }
     {
-        let all = &self.items[..];
-        &all[0..self.len]
+        &self.items[..self.len]
     }
 
     /// The item at place i, counted from 0.
     pub fn get(&self, i: usize) -> Option<T>
         ensures { result ≡ slice_get (held self.now) i }
     {
-        if i < self.len {
-            Some(self.items[i])
-        } else {
-            None
-        }
+        self.as_slice().get(i).copied()
     }
 
-    /// Puts the item after the last one and answers true; a full list stays as it was, and the answer is false.
-    pub fn push(&mut self, item: T) -> bool
-        ensures answer { result ≡ nat_lt (length (held self.old)) N }
-        ensures change { held self.new ≡ (if result then held self.old ++ item ∷ [] else held self.old) }
+    /// Puts the item after the last one. A full list stays as it was.
+    pub fn push(&mut self, item: T) -> Result<(), Full>
+        ensures answer { result ≡ place_or_full N (held self.old) }
+        ensures change { held self.new ≡ (if is_ok result then held self.old ++ item ∷ [] else held self.old) }
     {
-        if self.len < N {
-            self.items[self.len] = item;
-            self.len += 1;
-            true
-        } else {
-            false
+        if self.len == N {
+            return Err(Full { limit: N });
         }
+        self.items[self.len] = item;
+        self.len += 1;
+        Ok(())
     }
 }

@@ -4,19 +4,13 @@ ghost use Rattle.terms.specs.Tables.{Shows, extend, stepped, weight};
 
 use super::{ROWS, Reach};
 use crate::roles::Role;
-
-// Whether the row has the role's weight.
-fn has_weight(row: u64, s: Role) -> bool
-    ensures { result ≡ weight row s.code }
-{
-    (row >> s.code()) & 1 == 1
-}
+use crate::weights::has_weight;
 
 // The row once it takes in `target` if it reaches e.
 fn extended(row: u64, e: Role, target: u64) -> u64
     ensures { result ≡ extend e.code target row }
 {
-    if has_weight(row, e) {
+    if has_weight(row, e.code()) {
         row | target
     } else {
         row
@@ -40,7 +34,7 @@ impl Reach {
         ensures value { result ≡ weight (slice_index self.now.rows e.code) s.code }
         ensures means { (l : List Inclusion) → Shows self.now l → Decides result (Reaches l e.code s.code) }
     {
-        has_weight(self.rows[e.code() as usize], s)
+        has_weight(self.rows[e.code() as usize], s.code())
     }
 
     // Puts in the step from e to s, and closes the table again.

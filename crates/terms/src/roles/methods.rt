@@ -1,12 +1,10 @@
-ghost use Rattle.std.specs.Prelude.{◌≡◌, ◌*◌, ◌<◌, ◌==◌, not, Decides, nat_eq};
-ghost use Rattle.std.specs.Ordering.{on};
+ghost use Rattle.std.specs.Prelude.{◌≡◌, ◌*◌, ◌<◌, not};
 ghost use Rattle.terms.specs.Limits.{role_codes, role_names};
 ghost use Rattle.terms.specs.Roles.{RoleOrRefusal, backwards, mirror, name_of};
-ghost use Rattle.terms.specs.Codes.{role_decides};
-ghost use Rattle.std.specs.Cmp as Keys;
 
 use super::{ROLE_CODES, ROLE_NAMES, Role};
 use crate::refusals::Refusal;
+use std::fmt;
 
 impl Role {
     /// The role of a code, which is to be below 64.
@@ -59,19 +57,18 @@ impl Role {
     }
 }
 
-impl PartialEq for Role {
-    ghost eq = { on (λ v. v.code) nat_eq };
+impl Default for Role {
+    ghost is_default = { λ role. role.code ≡ 0 };
 
-    ghost laws = { Keys.partial_equiv_from_equiv (Keys.decided (on (λ v. v.code) nat_eq) role_decides) };
-
-    fn eq(&self, other: &Role) -> bool
-        ensures value { result ≡ self.now.code == other.now.code }
-        ensures decides { Decides result (self.now ≡ other.now) }
-    {
-        self.code == other.code
+    /// The role name 0 read forwards.
+    fn default() -> Role {
+        Role { code: 0 }
     }
 }
 
-impl Eq for Role {
-    ghost laws = { Keys.decided (on (λ v. v.code) nat_eq) role_decides };
+impl fmt::Display for Role {
+    fn fmt<W: fmt::Write>(&self, f: &mut fmt::Formatter<W>) -> fmt::Result {
+        let code = self.code;
+        write!(f, "{code}")
+    }
 }

@@ -1,4 +1,4 @@
-use Rattle.std.proofs.Common.{◌≡◌, length, sym, refl, arith}
+use Rattle.std.proofs.Common.{◌≡◌, length, take, sym, refl, arith}
 use Rattle.std.proofs.lemmas.List.{take_more_set, length-take-le}
 use Rattle.std.proofs.lemmas.Bool.{lt-ltb, le-ltb}
 use Rattle.terms.proofs.bounded.Short.push.Goals as goal
@@ -7,13 +7,4 @@ pub returns-then-self : goal.returns-then-self
 returns-then-self g c =
     let full : length c.args.self.now.items ≡ g.row.N = omega arith in
     let long = length-take-le c.args.self.now.len c.args.self.now.items (omega arith) in
-    record {
-      answer = sym (lt-ltb _ _ (omega arith));
-      change = take_more_set c.args.self.now.items c.args.self.now.len c.args.item (omega arith);
-    }
-
-pub returns-else-self : goal.returns-else-self
-returns-else-self g c =
-    let full : length c.args.self.now.items ≡ g.row.N = omega arith in
-    let long = length-take-le c.args.self.now.len c.args.self.now.items (omega arith) in
-    record { answer = sym (le-ltb _ _ (omega arith)); change = refl }
+    record { answer = rw (le-ltb (length (take c.args.self.now.len c.args.self.now.items)) g.row.N (omega arith)) refl; change = refl }

@@ -8,6 +8,7 @@ pub returns : goal.returns
 returns c =
     let e = c.args.e in
     let s = c.args.s in
-    let is : c.has_weight.result ≡ weight (get_or c.args.self.now.rows e.code 0) s.code =
-    c.has_weight.ensures ∙ ap (λ k. weight (get_or c.args.self.now.rows k 0) s.code) c.code.ensures.value in
+    let by_codes = c.code.ensures.value in
+    let by_codes-2 = c.code-2.ensures.value in
+    let is : c.has_weight.result ≡ weight (get_or c.args.self.now.rows e.code 0) s.code = cc in
     record { value = is; means = λ l h. Decides-at _ _ (is ∙ h e.code s.code (e.ok, s.ok)) (reach_decided l e.code s.code) }
