@@ -11,6 +11,7 @@ pub mod order;
 pub mod reaching;
 pub mod refusals;
 pub mod roles;
+mod walks;
 pub mod weights;
 
 pub use bounded::Short;

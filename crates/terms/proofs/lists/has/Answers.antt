@@ -1,20 +1,17 @@
-use Rattle.std.proofs.Common.{sym, ap, ◌∙◌}
-use Rattle.std.proofs.lemmas.List.{drop_all}
-use Rattle.terms.specs.Lists.{member}
+use Rattle.std.proofs.Common.{◌≡◌, rules, ◌∙◌}
+use borrow.Author.Tests.{tests}
+use Rattle.std.proofs.lemmas.Iterator.{YieldsList-from_slice}
+use Rattle.std.proofs.lemmas.Iterator.Search.{any_from_yields_List}
+use Rattle.terms.specs.Lists.{alike, member}
 use Rattle.terms.proofs.Sets.{member_means}
-use Rattle.terms.proofs.Turns.{drop_read, member_turn}
+use Rattle.terms.proofs.Tests.{member_any}
 use Rattle.terms.proofs.lists.has.Goals as goal
-
-pub returns-then-same : goal.returns-then-same
-returns-then-same g c =
-    let v = member_turn g.T.Ordered.precedes c.args.x.now _ _ _ _ (drop_read _ _ _ c.loop-y-test.true c.y-item.is) c.if-same.ensures ∙ c.loop-y.invariant in
-    record { value = v; means = member_means _ g.met.T.Ordered.order _ c.args.x.now c.args.xs.now v }
-
-pub loop-y-preserved : goal.loop-y-preserved
-loop-y-preserved g c =
-    member_turn g.T.Ordered.precedes c.args.x.now _ _ _ _ (drop_read _ _ _ c.loop-y-test.true c.y-item.is) c.if-same.ensures ∙ c.loop-y.invariant
 
 pub returns : goal.returns
 returns g c =
-    let v = ap (member g.T.Ordered.precedes c.args.x.now) (sym (drop_all _ c.args.xs.now c.loop-y-test.false)) ∙ c.loop-y.invariant in
-    record { value = v; means = member_means _ g.met.T.Ordered.order _ c.args.x.now c.args.xs.now v }
+    let lt = g.T.Ordered.precedes in
+    let x = c.args.x.now in
+    let xs = c.args.xs.now in
+    let v : c.any.result ≡ member lt x xs =
+        any_from_yields_List (alike lt x) _ _ c.any.result c.any.ensures.ran (YieldsList-from_slice xs cc) (λ y b q k. search (rules, tests)) ∙ member_any lt x xs in
+    record { value = v; means = member_means lt g.met.T.Ordered.order _ x xs v }

@@ -1,20 +1,17 @@
-use Rattle.std.proofs.Common.{sym, ap, ◌∙◌}
-use Rattle.std.proofs.lemmas.List.{drop_all}
-use Rattle.terms.specs.Lists.{contained}
+use Rattle.std.proofs.Common.{◌≡◌, rules, ◌∙◌}
+use borrow.Author.Tests.{tests}
+use Rattle.std.proofs.lemmas.Iterator.{YieldsList-from_slice}
+use Rattle.std.proofs.lemmas.Iterator.Search.{all_from_yields_List}
+use Rattle.terms.specs.Lists.{contained, member}
 use Rattle.terms.proofs.Sets.{contained_means}
-use Rattle.terms.proofs.Turns.{drop_read, contained_turn}
+use Rattle.terms.proofs.Tests.{contained_all}
 use Rattle.terms.proofs.lists.is_within.Goals as goal
-
-pub returns-then-not-has : goal.returns-then-not-has
-returns-then-not-has g c =
-    let v = contained_turn g.T.Ordered.precedes _ _ _ c.args.ys.now _ (drop_read _ _ _ c.loop-x-test.true c.x-item.is) c.if-not-has.ensures.value ∙ c.loop-x.invariant in
-    record { value = v; means = contained_means _ g.met.T.Ordered.order _ c.args.xs.now c.args.ys.now v }
-
-pub loop-x-preserved : goal.loop-x-preserved
-loop-x-preserved g c =
-    contained_turn g.T.Ordered.precedes _ _ _ c.args.ys.now _ (drop_read _ _ _ c.loop-x-test.true c.x-item.is) c.if-not-has.ensures.value ∙ c.loop-x.invariant
 
 pub returns : goal.returns
 returns g c =
-    let v = ap (λ l. contained g.T.Ordered.precedes l c.args.ys.now) (sym (drop_all _ c.args.xs.now c.loop-x-test.false)) ∙ c.loop-x.invariant in
-    record { value = v; means = contained_means _ g.met.T.Ordered.order _ c.args.xs.now c.args.ys.now v }
+    let lt = g.T.Ordered.precedes in
+    let xs = c.args.xs.now in
+    let ys = c.args.ys.now in
+    let v : c.all.result ≡ contained lt xs ys =
+        all_from_yields_List (λ x. member lt x ys) _ _ c.all.result c.all.ensures.ran (YieldsList-from_slice xs cc) (λ y b q k. search (rules, tests)) ∙ contained_all lt xs ys in
+    record { value = v; means = contained_means lt g.met.T.Ordered.order _ xs ys v }

@@ -1,29 +1,17 @@
-use Rattle.std.proofs.Common.{arith}
+use Rattle.std.proofs.Common.{◌^◌, ◌<◌, length, arith, refl, rules}
+use Rattle.std.proofs.lemmas.Iterator.Consumers.{YieldsList-from_first}
 use Rattle.terms.specs.Lists.{removal}
-use Rattle.terms.proofs.Fronts.{answer_fits, answer_not, memory_fits, memory_not}
-use Rattle.terms.proofs.Sets.{rising_removal, removal_means}
+use Rattle.terms.proofs.Sets.{rising_removal, removal_length, removal_means}
 use Rattle.terms.proofs.lists.without.Goals as goal
 
-pub returns-then-needed-out : goal.returns-then-needed-out
-returns-then-needed-out g c =
+pub write_out-requires : goal.write_out-requires
+write_out-requires g c =
     let lt = g.T.Ordered.precedes in
-    let o = g.met.T.Ordered.order in
-    let row = removal lt c.args.x.now c.args.xs.now in
-    record {
-      answer = answer_fits row _ _ c.write_without.ensures.count (omega arith);
-      memory = memory_fits row _ _ c.write_without.ensures.memory (omega arith);
-      means = removal_means lt o _ _;
-      rises = rising_removal lt o c.args.x.now c.args.xs.now;
-    }
+    let few : length (removal lt c.args.x.now c.args.xs.now) < 2 ^ 128 = omega (arith, removal_length lt c.args.x.now c.args.xs.now) in
+    λ k h. (search rules, (search rules, (YieldsList-from_first _ _ _ refl, (tt, (tt, few)))))
 
-pub returns-else-needed-out : goal.returns-else-needed-out
-returns-else-needed-out g c =
-    let lt = g.T.Ordered.precedes in
-    let o = g.met.T.Ordered.order in
-    let row = removal lt c.args.x.now c.args.xs.now in
-    record {
-      answer = answer_not row _ _ _ c.too_short.ensures c.without_len-needed.ensures (omega arith);
-      memory = memory_not row c.args.out.now (omega arith);
-      means = removal_means lt o _ _;
-      rises = rising_removal lt o c.args.x.now c.args.xs.now;
-    }
+pub returns-clause-means : goal.returns-clause-means
+returns-clause-means g c = removal_means g.T.Ordered.precedes g.met.T.Ordered.order _ _
+
+pub returns-clause-rises : goal.returns-clause-rises
+returns-clause-rises g c = rising_removal g.T.Ordered.precedes g.met.T.Ordered.order c.args.x.now c.args.xs.now
