@@ -1,10 +1,9 @@
 -- A list that is written to the front of lent memory, item by item. Assumes nothing.
 use Rattle.std.proofs.Common.{◌≡◌, ℕ, ◌+◌, ◌<◌, ◌≤◌, ◌⊎◌, List, [], ◌∷◌, ◌++◌, length, take, drop, set, Ok, Err, sym, refl, ap, ◌∙◌, inl, inr, arith}
-use Rattle.std.proofs.lemmas.List.{append-nil, append_assoc, drop-drop, drop-set-lt, length-append, length-set, length-take-le, take-append-drop, take_at, take_more_set}
+use Rattle.std.proofs.lemmas.List.{append-nil, append_assoc, drop-drop, drop-set-lt, length-set, length-take-le, take-append-drop, take_at, take_more_set}
 use Rattle.std.proofs.lemmas.Bool.{cases_lt, cond-true, cond-false, le-leb, lt-leb}
 use Rattle.terms.specs.declared.refusals.Refusal.{Refusal}
-use Rattle.terms.specs.declared.refusals.Refusal.TheVariants.{MemoryTooShort}
-use Rattle.terms.specs.Writing.{nameable, room_for, written}
+use Rattle.terms.specs.Writing.{room_for, written}
 
 -- n items of `whole` are written over `before`, which has become `out`, and `rest` is still to come
 pub record Part {X : Type 0} (before out : List X) (n : ℕ) (rest whole : List X) : Type 0 where
@@ -15,11 +14,6 @@ pub record Part {X : Type 0} (before out : List X) (n : ℕ) (rest whole : List 
 module _ {X : Type 0} where
   pub part_start : (before whole : List X) → Part before before 0 whole whole
   part_start before whole = record { room = omega arith; kept = refl; so_far = refl }
-
-  -- where more is to come of what fits, there is room for it
-  pub part_room : (before out : List X) (n : ℕ) (y : X) (rest whole : List X) → length whole ≤ length out → Part before out n (y ∷ rest) whole → n < length out
-  part_room before out n y rest whole fits p =
-      omega (arith, ap length p.so_far, length-append (take n out) (y ∷ rest), length-take-le n out p.room)
 
   pub part_write : (before out : List X) (n : ℕ) (y : X) (rest whole : List X) → n < length out → Part before out n (y ∷ rest) whole → Part before (set out n y) (n + 1) rest whole
   part_write before out n y rest whole within p = record {
@@ -34,10 +28,6 @@ module _ {X : Type 0} where
   pub part_other : (before out : List X) (n : ℕ) (rest other whole : List X) → rest ≡ other → Part before out n rest whole → Part before out n other whole
   part_other before out n rest other whole e p = record { room = p.room; kept = p.kept; so_far = ap (λ l. take n out ++ l) (sym e) ∙ p.so_far }
 
-  -- the same, of values that a way through the code gave
-  pub part_is : (before out out' : List X) (n n' : ℕ) (rest whole : List X) → out' ≡ out → n' ≡ n → Part before out n rest whole → Part before out' n' rest whole
-  part_is before out out' n n' rest whole d e p = rw (d, e) p
-
   front_whole : (before out : List X) (n : ℕ) (whole : List X) → Part before out n [] whole → take n out ≡ whole
   front_whole before out n whole p = sym (append-nil (take n out)) ∙ p.so_far
 
@@ -48,20 +38,6 @@ module _ {X : Type 0} where
   part_memory before out n whole p =
       sym (take-append-drop n out) ∙ ap (λ l. l ++ drop n out) (front_whole before out n whole p) ∙ ap (λ l. whole ++ l) p.kept
       ∙ ap (λ k. whole ++ drop k before) (part_count before out n whole p)
-
-  -- ---- the two ways of a call that writes `row` where it fits
-
-  pub answer_fits : (row : List X) (n r : ℕ) → r ≡ length row → length row ≤ n → Ok r ≡ room_for row n
-  answer_fits row n r e h = ap Ok e ∙ sym (cond-true _ _ _ (le-leb _ _ h))
-
-  pub answer_not : (row : List X) (n k : ℕ) (d : Refusal) → d ≡ MemoryTooShort (nameable k) → k ≡ length row → n < length row → Err d ≡ room_for row n
-  answer_not row n k d is e h = ap Err (is ∙ ap (λ m. MemoryTooShort (nameable m)) e) ∙ sym (cond-false _ _ _ (lt-leb _ _ h))
-
-  pub memory_fits : (row before after : List X) → after ≡ row ++ drop (length row) before → length row ≤ length before → after ≡ written row before
-  memory_fits row before after is h = is ∙ sym (cond-true _ _ _ (le-leb _ _ h))
-
-  pub memory_not : (row before : List X) → length before < length row → before ≡ written row before
-  memory_not row before h = sym (cond-false _ _ _ (lt-leb _ _ h))
 
   -- ---- what a caller learns from the answer
 

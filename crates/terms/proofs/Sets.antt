@@ -1,7 +1,6 @@
 -- What the tests on lists, the join and the removal mean for sets, under a total order. Assumes nothing.
 use Rattle.std.proofs.Common.{◌≡◌, ◌+◌, ◌≤◌, Bool, true, false, cond, ◌⊎◌, List, [], ◌∷◌, length, Decides, sym, refl, ◌∙◌, subst, inl, inr, ⊎_elim, arith}
 use Rattle.std.proofs.lemmas.Bool.{and_parts, and_from, or_cases, or_left, or_right, both_ways, true≢false}
-use Rattle.std.proofs.lemmas.Bool.Decides.{Decides-at}
 use Rattle.terms.specs.Lists.{◌∈◌, IsRemoval, IsUnion, SameItems, Subset, TotalOrder, alike, contained, equal, leads, member, removal, rising, union, union_from}
 use Rattle.terms.specs.Positions.{alike_decides_sameness}
 
@@ -91,9 +90,6 @@ module _ {X : Type 0} (lt : X → X → Bool) where
 
     pub alike_refl : (x : X) → alike lt x x ≡ true
     alike_refl x = (alike_decides_sameness lt o x x).1 refl
-
-    pub alike_decides : (r : Bool) (x y : X) → r ≡ alike lt x y → Decides r (x ≡ y)
-    alike_decides r x y e = Decides-at r (alike lt x y) e (alike_decides_sameness lt o x y)
 
     -- ---- membership and containment
 

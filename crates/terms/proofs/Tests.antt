@@ -1,5 +1,5 @@
 -- The tests on lists, as the library's methods make them. Assumes nothing.
-use Rattle.std.proofs.Common.{◌≡◌, ℕ, zero, suc, ◌+◌, ◌<◌, Bool, true, false, ◌&&◌, ◌||◌, List, [], ◌∷◌, length, get_or, MatchBool, sym, refl, ap, ◌∙◌, arith, add-one}
+use Rattle.std.proofs.Common.{◌≡◌, ℕ, zero, suc, ◌+◌, ◌<◌, Bool, true, false, ◌&&◌, ◌||◌, List, [], ◌∷◌, length, get_or, sym, refl, ap, arith, add-one}
 use Rattle.std.specs.List.{AllAdjacentBelow, IsAllAdjacentAnswer, list_all, list_any, zip}
 use Rattle.std.proofs.lemmas.Bool.{and_from}
 use Rattle.terms.specs.Lists.{alike, contained, equal, member, rising}

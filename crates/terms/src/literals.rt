@@ -9,8 +9,8 @@ use crate::order::Ordered;
 use crate::roles::Role;
 use std::fmt;
 
-// How many concepts there are, and so how many literals of one kind and one role.
-const CONCEPTS: u32 = 256;
+/// How many concepts there are, and so how many literals of one kind and one role.
+pub const CONCEPTS: u32 = 256;
 
 // Where the literals `some E A` and `all E A` begin.
 const FIRST_EXISTS: u32 = 256;

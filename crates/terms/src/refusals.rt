@@ -61,41 +61,29 @@ impl Refusal {
         ensures { result ≡ number self.now }
     {
         match *self {
-            Refusal::WrongByte { at: _ } => 1,
-            Refusal::OutOfRange { at: _ } => 2,
-            Refusal::NotRising { at: _ } => 3,
-            Refusal::TooLong { at: _ } => 4,
+            Refusal::WrongByte { .. } => 1,
+            Refusal::OutOfRange { .. } => 2,
+            Refusal::NotRising { .. } => 3,
+            Refusal::TooLong { .. } => 4,
             Refusal::BookClosed => 5,
             Refusal::BookOpen => 6,
-            Refusal::NoPlaceFree { limit: _ } => 7,
-            Refusal::ContextNotOpened { context: _ } => 8,
-            Refusal::NoConceptAxiom { axiom: _ } => 9,
-            Refusal::ClauseNotEntered {
-                premise: _,
-                clause: _,
-            } => 10,
-            Refusal::PremisesMiscounted {
-                given: _,
-                needed: _,
-            } => 11,
-            Refusal::OtherContext {
-                premise: _,
-                context: _,
-            } => 12,
-            Refusal::LiteralAbsent { premise: _ } => 13,
-            Refusal::RoleNotReached { premise: _ } => 14,
-            Refusal::CoreDiffers { context: _ } => 15,
-            Refusal::LiteralUnfit { index: _ } => 16,
-            Refusal::HeadTooLong { limit: _ } => 17,
-            Refusal::ClaimDiffers { index: _ } => 18,
-            Refusal::SampleMisshapen { size: _ } => 19,
-            Refusal::ElementOutside { at: _ } => 20,
-            Refusal::AxiomFails {
-                axiom: _,
-                element: _,
-            } => 21,
+            Refusal::NoPlaceFree { .. } => 7,
+            Refusal::ContextNotOpened { .. } => 8,
+            Refusal::NoConceptAxiom { .. } => 9,
+            Refusal::ClauseNotEntered { .. } => 10,
+            Refusal::PremisesMiscounted { .. } => 11,
+            Refusal::OtherContext { .. } => 12,
+            Refusal::LiteralAbsent { .. } => 13,
+            Refusal::RoleNotReached { .. } => 14,
+            Refusal::CoreDiffers { .. } => 15,
+            Refusal::LiteralUnfit { .. } => 16,
+            Refusal::HeadTooLong { .. } => 17,
+            Refusal::ClaimDiffers { .. } => 18,
+            Refusal::SampleMisshapen { .. } => 19,
+            Refusal::ElementOutside { .. } => 20,
+            Refusal::AxiomFails { .. } => 21,
             Refusal::NoneContradicts => 22,
-            Refusal::MemoryTooShort { needed: _ } => 23,
+            Refusal::MemoryTooShort { .. } => 23,
         }
     }
 
@@ -105,29 +93,39 @@ impl Refusal {
         ensures second { result.1 ≡ second_value self.now }
     {
         match *self {
-            Refusal::WrongByte { at } => (at, 0),
-            Refusal::OutOfRange { at } => (at, 0),
-            Refusal::NotRising { at } => (at, 0),
-            Refusal::TooLong { at } => (at, 0),
-            Refusal::BookClosed => (0, 0),
-            Refusal::BookOpen => (0, 0),
-            Refusal::NoPlaceFree { limit } => (limit, 0),
-            Refusal::ContextNotOpened { context } => (context, 0),
-            Refusal::NoConceptAxiom { axiom } => (axiom, 0),
-            Refusal::ClauseNotEntered { premise, clause } => (premise, clause),
-            Refusal::PremisesMiscounted { given, needed } => (given, needed),
-            Refusal::OtherContext { premise, context } => (premise, context),
-            Refusal::LiteralAbsent { premise } => (premise, 0),
-            Refusal::RoleNotReached { premise } => (premise, 0),
-            Refusal::CoreDiffers { context } => (context, 0),
-            Refusal::LiteralUnfit { index } => (index, 0),
-            Refusal::HeadTooLong { limit } => (limit, 0),
-            Refusal::ClaimDiffers { index } => (index, 0),
-            Refusal::SampleMisshapen { size } => (size, 0),
-            Refusal::ElementOutside { at } => (at, 0),
-            Refusal::AxiomFails { axiom, element } => (axiom, element),
-            Refusal::NoneContradicts => (0, 0),
-            Refusal::MemoryTooShort { needed } => (needed, 0),
+            Refusal::BookClosed | Refusal::BookOpen | Refusal::NoneContradicts => (0, 0),
+            Refusal::WrongByte { at: a }
+            | Refusal::OutOfRange { at: a }
+            | Refusal::NotRising { at: a }
+            | Refusal::TooLong { at: a }
+            | Refusal::NoPlaceFree { limit: a }
+            | Refusal::ContextNotOpened { context: a }
+            | Refusal::NoConceptAxiom { axiom: a }
+            | Refusal::LiteralAbsent { premise: a }
+            | Refusal::RoleNotReached { premise: a }
+            | Refusal::CoreDiffers { context: a }
+            | Refusal::LiteralUnfit { index: a }
+            | Refusal::HeadTooLong { limit: a }
+            | Refusal::ClaimDiffers { index: a }
+            | Refusal::SampleMisshapen { size: a }
+            | Refusal::ElementOutside { at: a }
+            | Refusal::MemoryTooShort { needed: a } => (a, 0),
+            Refusal::ClauseNotEntered {
+                premise: a,
+                clause: b,
+            }
+            | Refusal::PremisesMiscounted {
+                given: a,
+                needed: b,
+            }
+            | Refusal::OtherContext {
+                premise: a,
+                context: b,
+            }
+            | Refusal::AxiomFails {
+                axiom: a,
+                element: b,
+            } => (a, b),
         }
     }
 }

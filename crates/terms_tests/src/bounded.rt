@@ -6,9 +6,9 @@ fn a_list_takes_as_many_as_it_holds(rt: HostRuntime) {
     let mut list: Short<u8, 2> = Short::new(0);
     assert_eq!(rt; list.len(), 0);
     assert_eq!(rt; list.get(0), None);
-    assert_eq!(rt; list.push(7), true);
-    assert_eq!(rt; list.push(5), true);
-    assert_eq!(rt; list.push(9), false);
+    assert_eq!(rt; list.push(7).is_ok(), true);
+    assert_eq!(rt; list.push(5).is_ok(), true);
+    assert_eq!(rt; list.push(9).is_ok(), false);
     assert_eq!(rt; list.len(), 2);
     assert_eq!(rt; list.get(0), Some(7));
     assert_eq!(rt; list.get(1), Some(5));

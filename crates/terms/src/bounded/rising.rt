@@ -15,11 +15,8 @@ pub fn rising_list<T: Ordered, const N: usize>(
 ) -> Result<Short<T, N>, Refusal>
     ensures { MatchResult result (λ s. (held s ≡ items.now) × (list_refusal T.precedes N items.now ≡ None)) (λ e. list_refusal T.precedes N items.now ≡ Some e) }
 {
-    if !is_rising(&items[0..items.len().min(N)]) {
+    if !is_rising(&items[..items.len().min(N)]) {
         return Err(Refusal::NotRising { at: 0 });
     }
-    match Short::from_slice(items, filler) {
-        Some(list) => Ok(list),
-        None => Err(Refusal::TooLong { at: 0 }),
-    }
+    Short::from_slice(items, filler).ok_or(Refusal::TooLong { at: 0 })
 }

@@ -2,9 +2,10 @@ ghost use Rattle.std.specs.Prelude.{◌≡◌, ℕ, List, [], ◌∷◌, ◌++�
 ghost use Rattle.terms.specs.Reaching.{Inclusion, Reaches};
 ghost use Rattle.terms.specs.Tables.{Shows, extend, stepped, weight};
 
-use super::{ROWS, Reach};
+use super::Reach;
 use crate::roles::Role;
 use crate::weights::has_weight;
+use std::array;
 
 // The row once it takes in `target` if it reaches e.
 fn extended(row: u64, e: Role, target: u64) -> u64
@@ -22,11 +23,9 @@ impl Reach {
     pub fn new() -> Reach
         ensures { Shows result [] }
     {
-        let mut rows = [0u64; ROWS];
-        for x in 0..ROWS {
-            rows[x] = 1u64 << x;
+        Reach {
+            rows: array::from_fn(|x| 1u64 << x),
         }
-        Reach { rows }
     }
 
     /// Whether a chain of inclusions leads from e to s.

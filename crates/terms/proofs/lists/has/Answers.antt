@@ -13,5 +13,5 @@ returns g c =
     let x = c.args.x.now in
     let xs = c.args.xs.now in
     let v : c.any.result ≡ member lt x xs =
-        any_from_yields_List (alike lt x) _ _ c.any.result c.any.ensures.ran (YieldsList-from_slice xs cc) (λ y b q k. search (rules, tests)) ∙ member_any lt x xs in
+    any_from_yields_List (alike lt x) _ _ c.any.result c.any.ensures.ran (YieldsList-from_slice xs cc) (λ y b q k. search (rules, tests)) ∙ member_any lt x xs in
     record { value = v; means = member_means lt g.met.T.Ordered.order _ x xs v }

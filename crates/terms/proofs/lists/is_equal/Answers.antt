@@ -1,4 +1,4 @@
-use Rattle.std.proofs.Common.{◌≡◌, Bool, true, false, not, rules, sym, ◌∙◌}
+use Rattle.std.proofs.Common.{◌≡◌, rules, sym, ◌∙◌}
 use borrow.Author.Tests.{tests}
 use Rattle.std.specs.Slice.Iter.{iter_rest}
 use Rattle.std.proofs.lemmas.Bool.{ne_eqb}
@@ -19,8 +19,8 @@ returns-then-xs-ys g c =
     let a : iter_rest c.zip.result.a ≡ xs = search rules in
     let b : iter_rest c.zip.result.b ≡ ys = search rules in
     let v : c.all.result ≡ equal lt xs ys =
-        all_from_yields_List {s = c.zip.result} (λ p. alike lt p.0 p.1) c.all.new.self _ c.all.result c.all.ensures.ran (YieldsList-from_zip (YieldsList-from_slice {s = c.zip.result.a} xs a) (YieldsList-from_slice {s = c.zip.result.b} ys b)) (λ y b q k. search (rules, tests))
-        ∙ equal_all lt xs ys c.if-xs-ys.true in
+    all_from_yields_List {s = c.zip.result} (λ p. alike lt p.0 p.1) c.all.new.self _ c.all.result c.all.ensures.ran (YieldsList-from_zip (YieldsList-from_slice {s = c.zip.result.a} xs a) (YieldsList-from_slice {s = c.zip.result.b} ys b)) (λ y b q k. search (rules, tests))
+    ∙ equal_all lt xs ys c.if-xs-ys.true in
     let m = equal_means lt o _ xs ys v in
     record { value = v; means = m; sets = equal_sets lt o _ _ _ m }
 

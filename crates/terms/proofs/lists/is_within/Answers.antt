@@ -13,5 +13,5 @@ returns g c =
     let xs = c.args.xs.now in
     let ys = c.args.ys.now in
     let v : c.all.result ≡ contained lt xs ys =
-        all_from_yields_List (λ x. member lt x ys) _ _ c.all.result c.all.ensures.ran (YieldsList-from_slice xs cc) (λ y b q k. search (rules, tests)) ∙ contained_all lt xs ys in
+    all_from_yields_List (λ x. member lt x ys) _ _ c.all.result c.all.ensures.ran (YieldsList-from_slice xs cc) (λ y b q k. search (rules, tests)) ∙ contained_all lt xs ys in
     record { value = v; means = contained_means lt g.met.T.Ordered.order _ xs ys v }

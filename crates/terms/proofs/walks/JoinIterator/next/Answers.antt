@@ -1,4 +1,4 @@
-use Rattle.std.proofs.Common.{◌≡◌, List, [], ◌∷◌, length, refl, sym, ap, ◌∙◌, arith}
+use Rattle.std.proofs.Common.{◌≡◌, List, [], ◌∷◌, length, refl, sym, ap, arith}
 use Rattle.terms.specs.Lists.{union}
 use Rattle.terms.proofs.Sets.{union_nil}
 use Rattle.terms.proofs.walks.JoinIterator.next.Goals as goal
@@ -20,6 +20,6 @@ returns-in_default-split_first-clause-goes g c =
     let ys = c.args.self.now.ys.now in
     let e = none ys c.in_default-split_first.ensures.cases in
     let s : union lt c.args.self.now.xs.now ys ≡ c.in-Some.x.now ∷ union lt c.in-Some.xs.now ys =
-        rw (c.in-Some.ensures.cases.0, e) (ap (λ l. c.in-Some.x.now ∷ l) (sym (union_nil lt c.in-Some.xs.now))) in
+    rw (c.in-Some.ensures.cases.0, e) (ap (λ l. c.in-Some.x.now ∷ l) (sym (union_nil lt c.in-Some.xs.now))) in
     let k = ap length s in
     record { on = λ _. (tt, tt, omega (arith, k)); keeps = tt; rests = λ _. tt }
