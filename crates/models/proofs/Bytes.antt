@@ -1,11 +1,14 @@
 -- Rows of eight bytes, and which bit of which byte an element of a row is. Assumes nothing.
-use Rattle.std.proofs.Common.{◌≡◌, ℕ, zero, suc, ◌+◌, ◌-◌, ◌*◌, ◌/◌, ◌%◌, ◌^◌, ◌<◌, ◌≤◌, true, false, not, ◌&&◌, eqb, leb, ◌⊎◌, List, [], ◌∷◌, length, get_or, take, drop, sym, ap, ◌∙◌, inl, inr, arith, pow_mono}
+use Rattle.std.proofs.Common.{◌≡◌, ℕ, zero, suc, ◌+◌, ◌-◌, ◌*◌, ◌/◌, ◌%◌, ◌^◌, ◌<◌, ◌≤◌, Bool, true, false, cond, not, ◌&&◌, eqb, leb, ◌⊎◌, List, [], ◌∷◌, length, get_or, take, drop, Some, refl, sym, ap, ◌∙◌, inl, inr, arith, pow_mono}
 use Rattle.std.specs.Int.Digits.{number_from_digits}
+use Rattle.std.specs.List.{find, position_from, range_with_len}
+use Rattle.std.specs.Simd.{first_chunks}
 use Rattle.std.proofs.lemmas.Nat.{pow_pos, div_below, le-div, shr-shr, shr_high}
 use Rattle.std.proofs.lemmas.Int.Digits.{number_more}
-use Rattle.std.proofs.lemmas.List.{drop_more, get_or-drop, length-drop}
+use Rattle.std.proofs.lemmas.List.{drop-drop, get_or-drop, length-drop}
 use Rattle.std.proofs.lemmas.Bool.{and_parts, cases_lt, eqb-true, le-leb, leb-true, lt-leb, ne_eqb}
 use Rattle.terms.specs.Tables.{weight}
+use Rattle.models.specs.Judging.{lowest}
 use Rattle.models.specs.Tables.{is_shaped, row, row_bit}
 
 -- ---- stray weights
@@ -24,30 +27,37 @@ shifted_strays w n = go (cases_lt w (2 ^ n))
 pub never_strays : (w n : ℕ) → w < 2 ^ 64 → 64 ≤ n → false ≡ leb (2 ^ n) w
 never_strays w n h m = sym (lt-leb (2 ^ n) w (omega (arith, pow_mono {i = 64} {j = n} m)))
 
--- ---- the number that eight bytes write
+-- ---- rows
 
-module _ (bytes : List ℕ) where
-  next : (n i j : ℕ) → i < length bytes → i + 1 ≡ j → take (suc n) (drop i bytes) ≡ get_or bytes i 0 ∷ take n (drop j bytes)
-  next n i j h e = ap (take (suc n)) (drop_more bytes i 0 h) ∙ ap (λ k. get_or bytes i 0 ∷ take n (drop k bytes)) e
+-- row k of the bytes is what chunk k writes
+pub chunk_row : (n k : ℕ) (bytes : List ℕ) → k < n → get_or (first_chunks 8 n bytes) k [] ≡ take 8 (drop (8 * k) bytes)
+chunk_row zero k bytes lt = absurd (omega arith)
+chunk_row (suc n) zero bytes lt = refl
+chunk_row (suc n) (suc k) bytes lt =
+    let e : 8 + 8 * k ≡ 8 * suc k = omega arith in
+    chunk_row n k (drop 8 bytes) (omega arith) ∙ ap (take 8) (drop-drop (8 * k) 8 bytes) ∙ ap (λ i. take 8 (drop i bytes)) e
 
-  pub eight : (i : ℕ) → i + 8 ≤ length bytes
-      → take 8 (drop i bytes) ≡ get_or bytes i 0 ∷ get_or bytes (i + 1) 0 ∷ get_or bytes (i + 2) 0 ∷ get_or bytes (i + 3) 0 ∷ get_or bytes (i + 4) 0 ∷ get_or bytes (i + 5) 0 ∷ get_or bytes (i + 6) 0 ∷ get_or bytes (i + 7) 0 ∷ []
-  eight i h =
-      rw (
-        next 7 i (i + 1) (omega arith) (omega arith),
-        next 6 (i + 1) (i + 2) (omega arith) (omega arith),
-        next 5 (i + 2) (i + 3) (omega arith) (omega arith),
-        next 4 (i + 3) (i + 4) (omega arith) (omega arith),
-        next 3 (i + 4) (i + 5) (omega arith) (omega arith),
-        next 2 (i + 5) (i + 6) (omega arith) (omega arith),
-        next 1 (i + 6) (i + 7) (omega arith) (omega arith),
-        next 0 (i + 7) (i + 8) (omega arith) (omega arith),
-      )
+-- the first item that passes p is at the lowest index that passes q, where q tests the item at an index
+module _ {X : Type 0} (p : X → Bool) (q : ℕ → Bool) (d : X) where
+  found_from : (xs : List X) (a : ℕ) → ((k i : ℕ) → a + k ≡ i → k < length xs → p (get_or xs k d) ≡ q i) → position_from p a xs ≡ find q (range_with_len a (length xs))
+  found_from [] a so = refl
+  found_from (x ∷ xs) a so =
+      let here : p x ≡ q a = so 0 a (omega arith) (omega arith) in
+      let rest = found_from xs (a + 1) (λ k i e lt. so (suc k) i (omega arith) (omega arith)) in
+      ap (λ b. cond b (Some a) (position_from p (a + 1) xs)) here ∙ ap (cond (q a) (Some a)) rest
 
-pub eight_number : (a b c d e f g h : ℕ)
-    → a * 72057594037927936 + b * 281474976710656 + c * 1099511627776 + d * 4294967296 + e * 16777216 + f * 65536 + g * 256 + h
-    ≡ number_from_digits 256 (a ∷ b ∷ c ∷ d ∷ e ∷ f ∷ g ∷ h ∷ [])
-eight_number a b c d e f g h = omega arith
+chunks_len : (n : ℕ) (bytes : List ℕ) → length (first_chunks 8 n bytes) ≡ n
+chunks_len zero bytes = refl
+chunks_len (suc n) bytes = ap suc (chunks_len n (drop 8 bytes))
+
+-- the first chunk whose number passes is the lowest such row
+pub lowest_row : (p : ℕ → Bool) (n : ℕ) (bytes : List ℕ) → position_from (λ chunk. p (number_from_digits 256 chunk)) 0 (first_chunks 8 n bytes) ≡ lowest (λ k. p (row bytes k)) n
+lowest_row p n bytes =
+    found_from (λ chunk. p (number_from_digits 256 chunk)) (λ k. p (row bytes k)) [] (first_chunks 8 n bytes) 0
+    (λ k i e lt. let is : k ≡ i = omega arith in
+    let below : k < n = omega (arith, chunks_len n bytes) in
+    ap (λ chunk. p (number_from_digits 256 chunk)) (chunk_row n k bytes below) ∙ ap (λ j. p (row bytes j)) is)
+    ∙ ap (λ m. find (λ k. p (row bytes k)) (range_with_len 0 m)) (chunks_len n bytes)
 
 -- ---- which bit of which byte
 
@@ -94,8 +104,8 @@ row_place bytes k x fit room lt =
     ∙ ap (λ b. weight b (x % 8)) (get_or-drop (8 * k) bytes (7 - x / 8) 0)
 
 -- what the test of the shape tells
-pub shape_told : (bytes : List ℕ) (n : ℕ) → true ≡ is_shaped bytes n → (1 ≤ n) × (n ≤ 64) × (length bytes ≡ 8 * (256 + 32 * n))
+pub shape_told : (bytes : List ℕ) (n : ℕ) → is_shaped bytes n ≡ true → (1 ≤ n) × (n ≤ 64) × (length bytes ≡ 8 * (256 + 32 * n))
 shape_told bytes n t =
-    let both = and_parts (leb 1 n && leb n 64) (eqb (length bytes) (8 * (256 + 32 * n))) (sym t) in
+    let both = and_parts (leb 1 n && leb n 64) (eqb (length bytes) (8 * (256 + 32 * n))) t in
     let ends = and_parts (leb 1 n) (leb n 64) both.0 in
     (leb-true 1 n ends.0, leb-true n 64 ends.1, eqb-true (length bytes) (8 * (256 + 32 * n)) both.1)

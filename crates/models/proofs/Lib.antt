@@ -2,7 +2,6 @@ pub mod Bytes
 pub mod Decided
 pub mod Pairs
 pub mod Sayings
-pub mod Search
 pub mod Truth
 pub mod Verdicts
 pub mod Words

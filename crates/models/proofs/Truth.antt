@@ -10,7 +10,7 @@ use Rattle.terms.specs.declared.literals.Literal.TheVariants.{Concept, Exists, F
 use Rattle.models.specs.Judging.{all_test, any_test, contradicts_test, fails_test, filler_at, filler_test, first_failure, literal_test, missing_at, missing_test, pair_test, some_test}
 use Rattle.models.specs.Meanings.{Meaning, element_in, interpretation, linked}
 use Rattle.models.specs.Semantics.{Contradicts, FailsAt, Implies, InAll, InSome, IsIn, Pair, Satisfies, Sentence, implies, turned, under}
-use Rattle.models.proofs.Decided.{decides_any, decides_every, decides_lowest, found, none_found}
+use Rattle.models.proofs.Decided.{decides_any, decides_every, decides_below, found, none_found}
 
 ⊥_prop : (x y : ⊥) → x ≡ y
 ⊥_prop x y = absurd x
@@ -42,12 +42,12 @@ module _ (m : Meaning) where
 
   filler_decides : (E A x : ℕ) → Decides (filler_test m E A true x) (∥ ((y : ℕ) × (Pair (interpretation m) E x y × (interpretation m).concept A y)) ∥₁)
   filler_decides E A x =
-      decides_lowest (filler_at m E A true x) (λ y. Pair (interpretation m) E x y × (interpretation m).concept A y)
+      decides_below (filler_at m E A true x) (λ y. Pair (interpretation m) E x y × (interpretation m).concept A y)
       (λ y. Decides-and _ _ (pair_decides E x y) (element_decides A y)) m.size (λ y h. (pair_below E x y h.0).1)
 
   other_decides : (E A x : ℕ) → Decides (filler_test m E A false x) (∥ ((y : ℕ) × (Pair (interpretation m) E x y × ((interpretation m).concept A y → ⊥))) ∥₁)
   other_decides E A x =
-      decides_lowest (filler_at m E A false x) (λ y. Pair (interpretation m) E x y × ((interpretation m).concept A y → ⊥))
+      decides_below (filler_at m E A false x) (λ y. Pair (interpretation m) E x y × ((interpretation m).concept A y → ⊥))
       (λ y. Decides-and _ _ (pair_decides E x y) (Decides-not _ (element_decides A y))) m.size (λ y h. (pair_below E x y h.0).1)
 
   -- where no pair leads out of A, every pair leads into it
@@ -82,7 +82,7 @@ module _ (m : Meaning) where
 
   missing_decides : (E S x : ℕ) → Decides (missing_test m E S x) (∥ ((y : ℕ) × (Pair (interpretation m) E x y × (Pair (interpretation m) S x y → ⊥))) ∥₁)
   missing_decides E S x =
-      decides_lowest (missing_at m E S x) (λ y. Pair (interpretation m) E x y × (Pair (interpretation m) S x y → ⊥))
+      decides_below (missing_at m E S x) (λ y. Pair (interpretation m) E x y × (Pair (interpretation m) S x y → ⊥))
       (λ y. Decides-and _ _ (pair_decides E x y) (Decides-not _ (pair_decides S x y))) m.size (λ y h. (pair_below E x y h.0).1)
 
   module _ (ne : 1 ≤ m.size) where

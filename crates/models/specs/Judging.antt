@@ -1,6 +1,7 @@
 -- How a sample is judged, as a computation over its meaning. That it agrees with the semantics is proved, and stands on `judge` and
 -- `lowest_contradiction`. Assumes nothing.
-use Rattle.std.specs.Prelude.{ℕ, zero, suc, ◌+◌, Bool, true, false, cond, not, ◌&&◌, ◌||◌, List, [], ◌∷◌, is_some, Some, None, Ok, Err, Option, Result}
+use Rattle.std.specs.Prelude.{ℕ, ◌+◌, Bool, true, false, cond, not, ◌&&◌, List, [], ◌∷◌, Some, None, Ok, Err, Option, Result}
+use Rattle.std.specs.List.{find, list_all, list_any, range_with_len}
 use Rattle.terms.specs.Roles.{backwards, name_of}
 use Rattle.terms.specs.declared.literals.Literal.{Literal}
 use Rattle.terms.specs.declared.literals.Literal.TheVariants.{Concept, Exists, Forall}
@@ -10,22 +11,9 @@ use Rattle.models.specs.Meanings.{Meaning, element_in, fault_of, linked, refusal
 use Rattle.models.specs.Semantics.{Sentence, implies, under}
 use Rattle.models.specs.declared.samples.Fault.{Fault}
 
--- the first of `count` numbers, from `from` on, that passes
-abbrev pub first_from : (ℕ → Bool) → ℕ → ℕ → Option ℕ
-first_from p zero from = None
-first_from p (suc count) from = cond (p from) (Some from) (first_from p count (from + 1))
-
 -- the lowest number below n that passes
 abbrev pub lowest : (ℕ → Bool) → ℕ → Option ℕ
-lowest p n = first_from p n 0
-
-abbrev pub every : {X : Type 0} → (X → Bool) → List X → Bool
-every p [] = true
-every p (x ∷ xs) = p x && every p xs
-
-abbrev pub any : {X : Type 0} → (X → Bool) → List X → Bool
-any p [] = false
-any p (x ∷ xs) = p x || any p xs
+lowest p n = find p (range_with_len 0 n)
 
 -- (x, y) is a pair of the role code E
 abbrev pub pair_test : Meaning → ℕ → ℕ → ℕ → Bool
@@ -37,7 +25,7 @@ filler_at m E A wanted x y = pair_test m E x y && cond wanted (element_in m A y)
 
 -- some y is such
 abbrev pub filler_test : Meaning → ℕ → ℕ → Bool → ℕ → Bool
-filler_test m E A wanted x = is_some (lowest (filler_at m E A wanted x) m.size)
+filler_test m E A wanted x = list_any (filler_at m E A wanted x) (range_with_len 0 m.size)
 
 abbrev pub literal_test : Meaning → ℕ → Literal → Bool
 literal_test m x (Concept A) = element_in m A x
@@ -46,13 +34,13 @@ literal_test m x (Forall E A) = not (filler_test m E.code A false x)
 
 -- x is in all the concepts; in some of the concepts; in some of the literals
 abbrev pub all_test : Meaning → ℕ → List ℕ → Bool
-all_test m x K = every (λ A. element_in m A x) K
+all_test m x K = list_all (λ A. element_in m A x) K
 
 abbrev pub any_test : Meaning → ℕ → List ℕ → Bool
-any_test m x M = any (λ A. element_in m A x) M
+any_test m x M = list_any (λ A. element_in m A x) M
 
 abbrev pub some_test : Meaning → ℕ → List Literal → Bool
-some_test m x H = any (literal_test m x) H
+some_test m x H = list_any (literal_test m x) H
 
 -- (x, y) is a pair of E and not one of S
 abbrev pub missing_at : Meaning → ℕ → ℕ → ℕ → ℕ → Bool
@@ -60,7 +48,7 @@ missing_at m E S x y = pair_test m E x y && not (pair_test m S x y)
 
 -- some y is such
 abbrev pub missing_test : Meaning → ℕ → ℕ → ℕ → Bool
-missing_test m E S x = is_some (lowest (missing_at m E S x) m.size)
+missing_test m E S x = list_any (missing_at m E S x) (range_with_len 0 m.size)
 
 -- the sentence fails at x
 abbrev pub fails_test : Meaning → Sentence → ℕ → Bool

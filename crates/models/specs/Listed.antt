@@ -1,9 +1,9 @@
 -- What a list of entries holds: each place of the memory that was lent, how many places are taken, and the size of the sample. Assumes nothing.
 use Rattle.std.specs.Prelude.{ℕ, ◌+◌, min, Bool, cond, ◌&&◌, List, length, take, Some, None, Ok, Err, Option, Result, nat_le, nat_lt, slice_set}
+use Rattle.std.specs.List.{list_any}
 use Rattle.terms.specs.declared.refusals.Refusal.{Refusal}
 use Rattle.terms.specs.declared.refusals.Refusal.TheVariants.{ElementOutside, NoPlaceFree, SampleMisshapen}
 use Rattle.models.specs.Facts.{fact_same}
-use Rattle.models.specs.Judging.{any}
 use Rattle.models.specs.Meanings.{Meaning}
 use Rattle.models.specs.declared.entries.Entry.{Entry}
 use Rattle.models.specs.declared.facts.Fact.{Fact}
@@ -76,7 +76,7 @@ fact_of e = e.fact
 
 -- one of the entries says the fact
 abbrev pub says : List Entry → Fact → Bool
-says entries f = any (λ e. fact_same f e.fact) entries
+says entries f = list_any (λ e. fact_same f e.fact) entries
 
 abbrev pub list_meaning : Kept → Meaning
 list_meaning k = record {

@@ -1,9 +1,12 @@
 // What an entry of a sample list says.
 ghost use Rattle.std.specs.Prelude.{◌≡◌, Decides};
-ghost use Rattle.models.specs.Facts.{fact_same};
+ghost use Rattle.models.specs.Facts.{fact_in_range, fact_same};
+
+use crate::samples::ELEMENT_LIMIT;
+use terms::roles::ROLE_NAMES;
 
 /// One fact of a sample.
-#[derive(Clone, Copy)]
+#[derive(Clone, Copy, PartialEq, Eq)]
 pub enum Fact {
     /// The element is in the concept.
     In { concept: u8, element: u8 },
@@ -12,34 +15,23 @@ pub enum Fact {
 }
 
 impl Fact {
+    /// Whether its elements are below 64 and its role name is below 32.
+    pub(crate) fn is_in_range(self) -> bool
+        ensures { result ≡ fact_in_range self }
+    {
+        match self {
+            Fact::In { element, .. } => element < ELEMENT_LIMIT,
+            Fact::Link { role, from, to } => role < ROLE_NAMES
+                && from < ELEMENT_LIMIT
+                && to < ELEMENT_LIMIT,
+        }
+    }
+
     /// Whether the two facts are the same.
     pub fn is_same(self, other: Fact) -> bool
         ensures value { result ≡ fact_same self other }
         ensures means { Decides result (self ≡ other) }
     {
-        match self {
-            Fact::In {
-                concept: a,
-                element: x,
-            } => match other {
-                Fact::In {
-                    concept: b,
-                    element: y,
-                } => a == b && x == y,
-                Fact::Link { .. } => false,
-            },
-            Fact::Link {
-                role: q,
-                from: u,
-                to: v,
-            } => match other {
-                Fact::In { .. } => false,
-                Fact::Link {
-                    role: r,
-                    from: x,
-                    to: y,
-                } => q == r && u == x && v == y,
-            },
-        }
+        self == other
     }
 }

@@ -25,25 +25,14 @@ fn is_pair<S: Sample>(sample: &S, e: Role, x: u8, y: u8) -> bool
 fn is_filler<S: Sample>(sample: &S, e: Role, a: u8, wanted: bool, x: u8, y: u8) -> bool
     ensures { result ≡ filler_at (S.meaning sample.now) e.code a wanted x y }
 {
-    if !is_pair(sample, e, x, y) {
-        false
-    } else if wanted {
-        sample.is_in(a, y)
-    } else {
-        !sample.is_in(a, y)
-    }
+    is_pair(sample, e, x, y) && sample.is_in(a, y) == wanted
 }
 
 // Whether some pair (x, y) of the role has y in the concept, or, where `wanted` is false, not in it.
 fn has_filler<S: Sample>(sample: &S, e: Role, a: u8, wanted: bool, x: u8) -> bool
     ensures { result ≡ filler_test (S.meaning sample.now) e.code a wanted x }
 {
-    for y in 0..sample.size() {
-        if is_filler(sample, e, a, wanted, x, y) {
-            return true;
-        }
-    }
-    false
+    (0..sample.size()).any(|y| is_filler(sample, e, a, wanted, x, y))
 }
 
 // Whether (x, y) is a pair of e and not of s.
@@ -57,12 +46,7 @@ fn is_missing<S: Sample>(sample: &S, e: Role, s: Role, x: u8, y: u8) -> bool
 fn misses_pair<S: Sample>(sample: &S, e: Role, s: Role, x: u8) -> bool
     ensures { result ≡ missing_test (S.meaning sample.now) e.code s.code x }
 {
-    for y in 0..sample.size() {
-        if is_missing(sample, e, s, x, y) {
-            return true;
-        }
-    }
-    false
+    (0..sample.size()).any(|y| is_missing(sample, e, s, x, y))
 }
 
 // Whether x is in the literal.
@@ -80,36 +64,23 @@ fn is_in_literal<S: Sample>(sample: &S, x: u8, literal: Literal) -> bool
 fn is_in_all<S: Sample>(sample: &S, x: u8, concepts: &[u8]) -> bool
     ensures { result ≡ all_test (S.meaning sample.now) x concepts.now }
 {
-    for a in concepts {
-        if !sample.is_in(*a, x) {
-            return false;
-        }
-    }
-    true
+    concepts.iter().all(|a| sample.is_in(*a, x))
 }
 
 // Whether x is in one of the concepts.
 fn is_in_any<S: Sample>(sample: &S, x: u8, concepts: &[u8]) -> bool
     ensures { result ≡ any_test (S.meaning sample.now) x concepts.now }
 {
-    for a in concepts {
-        if sample.is_in(*a, x) {
-            return true;
-        }
-    }
-    false
+    concepts.iter().any(|a| sample.is_in(*a, x))
 }
 
 // Whether x is in one of the literals.
 fn is_in_some<S: Sample>(sample: &S, x: u8, literals: &[Literal]) -> bool
     ensures { result ≡ some_test (S.meaning sample.now) x literals.now }
 {
-    for literal in literals {
-        if is_in_literal(sample, x, *literal) {
-            return true;
-        }
-    }
-    false
+    literals
+        .iter()
+        .any(|literal| is_in_literal(sample, x, *literal))
 }
 
 // Whether the axiom fails at x.
@@ -127,12 +98,7 @@ fn fails_at<S: Sample>(sample: &S, axiom: Axiom, x: u8) -> bool
 fn lowest_failure<S: Sample>(sample: &S, axiom: Axiom) -> Option<u8>
     ensures { result ≡ first_failure (S.meaning sample.now) (sentence_of «axiom») }
 {
-    for x in 0..sample.size() {
-        if fails_at(sample, axiom, x) {
-            return Some(x);
-        }
-    }
-    None
+    (0..sample.size()).find(|x| fails_at(sample, axiom, *x))
 }
 
 /// The sample's own fault (19 or 20), or else the lowest axiom that fails in it, with the lowest element at which it does (21).
@@ -142,7 +108,7 @@ pub fn judge<S: Sample>(axioms: &[Axiom], sample: &S) -> Result<(), Refusal>
     ensures fails { (i x : ℕ) → fault_of (S.meaning sample.now) ≡ None → result ≡ Err (AxiomFails i x) → LowestFailure (interpretation (S.meaning sample.now)) (map sentence_of axioms.now) i x }
 {
     match sample.fault() {
-        Some(fault) => Err(fault.refusal()),
+        Some(fault) => Err(fault.into()),
         None => judge_axioms(axioms, sample),
     }
 }
@@ -151,8 +117,8 @@ pub fn judge<S: Sample>(axioms: &[Axiom], sample: &S) -> Result<(), Refusal>
 fn judge_axioms<S: Sample>(axioms: &[Axiom], sample: &S) -> Result<(), Refusal>
     ensures { result ≡ judged_from (S.meaning sample.now) 0 (map sentence_of axioms.now) }
 {
-    for i in 0..axioms.len() {
-        if let Some(x) = lowest_failure(sample, axioms[i]) {
+    for (i, axiom) in axioms.iter().enumerate() {
+        if let Some(x) = lowest_failure(sample, *axiom) {
             return Err(Refusal::AxiomFails {
                 axiom: i,
                 element: x as usize,
@@ -167,12 +133,7 @@ pub fn lowest_contradiction<S: Sample>(left: &[u8], right: &[u8], sample: &S) ->
     ensures value { result ≡ contradiction (S.meaning sample.now) left.now right.now }
     ensures means { fault_of (S.meaning sample.now) ≡ None → MatchOption result ((x : ℕ) → Contradicts (interpretation (S.meaning sample.now)) left.now right.now x → ⊥) (LowestContradiction (interpretation (S.meaning sample.now)) left.now right.now) }
 {
-    for x in 0..sample.size() {
-        if contradicts_at(left, right, sample, x) {
-            return Some(x);
-        }
-    }
-    None
+    (0..sample.size()).find(|x| contradicts_at(left, right, sample, *x))
 }
 
 // Whether x is in all of `left` and in none of `right`.

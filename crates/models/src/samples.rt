@@ -1,5 +1,5 @@
 // Samples: finite interpretations that can be asked.
-ghost use Rattle.std.specs.Prelude.{◌≡◌};
+ghost use Rattle.std.specs.Prelude.{◌≡◌, ◌&&◌, nat_le};
 ghost use Rattle.models.specs.Meanings.{Meaning, element_in, fault_of, linked, refusal_of};
 
 use terms::Refusal;
@@ -7,8 +7,15 @@ use terms::Refusal;
 /// The most elements that a sample has: 0 to 63.
 pub const ELEMENT_LIMIT: u8 = 64;
 
+// Whether a sample may have n elements.
+pub(crate) fn is_sample_size(n: u8) -> bool
+    ensures { result ≡ (nat_le 1 n && nat_le n 64) }
+{
+    (1..=ELEMENT_LIMIT).contains(&n)
+}
+
 /// What keeps a sample from being judged.
-#[derive(Clone, Copy)]
+#[derive(Clone, Copy, Debug, PartialEq, Eq)]
 pub enum Fault {
     /// A table of the wrong length, or a sample with this many elements, which is not 1 to 64.
     Misshapen { size: usize },
@@ -16,12 +23,12 @@ pub enum Fault {
     Outside { row: usize },
 }
 
-impl Fault {
-    /// The refusal that the fault gets: 19 or 20.
-    pub fn refusal(self) -> Refusal
-        ensures { result ≡ refusal_of self }
-    {
-        match self {
+/// A fault gets the refusal 19 or 20.
+impl From<Fault> for Refusal {
+    ghost from_gives = { λ fault refusal. refusal ≡ refusal_of fault };
+
+    fn from(fault: Fault) -> Refusal {
+        match fault {
             Fault::Misshapen { size } => Refusal::SampleMisshapen { size },
             Fault::Outside { row } => Refusal::ElementOutside { at: row },
         }

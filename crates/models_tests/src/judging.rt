@@ -1,8 +1,9 @@
 // Small samples against small charts.
 ghost use Rattle.std.specs.Prelude.{false, None};
 
+use crate::telling::{element, link, made, told};
 use models::judge::{judge, lowest_contradiction};
-use models::{Axiom, ConceptAxiom, Entry, Fact, Fault, List, Sample};
+use models::{Axiom, ConceptAxiom, Entry, Fault, List, Sample};
 use std::test::Fail;
 use terms::{Literal, Refusal, Role};
 
@@ -49,25 +50,6 @@ fn some(e: u8, a: u8) -> Result<Literal, Refusal> {
 
 fn all(e: u8, a: u8) -> Result<Literal, Refusal> {
     Ok(Literal::Forall(Role::new(e)?, a))
-}
-
-fn element(concept: u8, element: u8) -> Result<Entry, Refusal> {
-    Entry::new(Fact::In { concept, element })
-}
-
-fn link(role: u8, from: u8, to: u8) -> Result<Entry, Refusal> {
-    Entry::new(Fact::Link { role, from, to })
-}
-
-// The verdict as number, A and B, all 0 where every axiom holds.
-fn told(verdict: Result<(), Refusal>) -> (u8, usize, usize) {
-    match verdict {
-        Ok(_) => (0, 0, 0),
-        Err(refusal) => {
-            let (a, b) = refusal.values();
-            (refusal.number(), a, b)
-        }
-    }
 }
 
 // The verdict of a chart on a list of n elements with these entries.
@@ -203,14 +185,6 @@ fn the_lowest_contradiction(rt: HostRuntime) -> Result<(), Fail> {
     assert_eq!(rt; lowest_contradiction(&[], &[2], &list), Some(1));
     assert_eq!(rt; lowest_contradiction(&[3], &[], &list), None);
     Ok(())
-}
-
-// The number of the refusal of sides, or 0.
-fn made(r: Result<ConceptAxiom, Refusal>) -> u8 {
-    match r {
-        Ok(_) => 0,
-        Err(refusal) => refusal.number(),
-    }
 }
 
 #[test]

@@ -7,3 +7,5 @@ mod judging;
 mod lists;
 #[cfg(test)]
 mod tables;
+#[cfg(test)]
+mod telling;

@@ -1,34 +1,7 @@
 // Lists of entries: limits, refusals and what they leave, starting again, repeated entries.
-use models::{Entry, Fact, List, Sample};
+use crate::telling::{element, link, made, told_first};
+use models::{Entry, List, Sample};
 use std::test::Fail;
-use terms::Refusal;
-
-fn element(concept: u8, element: u8) -> Result<Entry, Refusal> {
-    Entry::new(Fact::In { concept, element })
-}
-
-fn link(role: u8, from: u8, to: u8) -> Result<Entry, Refusal> {
-    Entry::new(Fact::Link { role, from, to })
-}
-
-// The number and first value of a refusal, or (0, 0) where nothing is refused.
-fn told(r: Result<(), Refusal>) -> (u8, usize) {
-    match r {
-        Ok(_) => (0, 0),
-        Err(refusal) => {
-            let (value, _) = refusal.values();
-            (refusal.number(), value)
-        }
-    }
-}
-
-// The number of the refusal of an entry out of its ranges, or 0.
-fn made(r: Result<Entry, Refusal>) -> u8 {
-    match r {
-        Ok(_) => 0,
-        Err(refusal) => refusal.number(),
-    }
-}
 
 #[test]
 fn entries_have_ranges(rt: HostRuntime) {
@@ -45,14 +18,14 @@ fn a_list_in_two_places(rt: HostRuntime) -> Result<(), Fail> {
     let mut memory = [element(9, 9)?; 2];
     let mut list = List::new(&mut memory[..]);
     assert_eq!(rt; list.size(), 1);
-    assert_eq!(rt; told(list.add(element(5, 0)?)), (0, 0));
+    assert_eq!(rt; told_first(list.add(element(5, 0)?)), (0, 0));
     // element 1 is not below the size 1, and that comes before want of a place
-    assert_eq!(rt; told(list.add(element(5, 1)?)), (20, 1));
-    assert_eq!(rt; told(list.add(link(3, 0, 1)?)), (20, 1));
-    assert_eq!(rt; told(list.add(link(3, 2, 1)?)), (20, 2));
-    assert_eq!(rt; told(list.add(link(3, 0, 0)?)), (0, 0));
-    assert_eq!(rt; told(list.add(element(6, 0)?)), (7, 2));
-    assert_eq!(rt; told(list.add(element(6, 1)?)), (20, 1));
+    assert_eq!(rt; told_first(list.add(element(5, 1)?)), (20, 1));
+    assert_eq!(rt; told_first(list.add(link(3, 0, 1)?)), (20, 1));
+    assert_eq!(rt; told_first(list.add(link(3, 2, 1)?)), (20, 2));
+    assert_eq!(rt; told_first(list.add(link(3, 0, 0)?)), (0, 0));
+    assert_eq!(rt; told_first(list.add(element(6, 0)?)), (7, 2));
+    assert_eq!(rt; told_first(list.add(element(6, 1)?)), (20, 1));
     assert_eq!(rt; list.is_in(5, 0), true);
     assert_eq!(rt; list.is_in(6, 0), false);
     assert_eq!(rt; list.links(3, 0, 0), true);
@@ -64,19 +37,19 @@ fn a_list_in_two_places(rt: HostRuntime) -> Result<(), Fail> {
 fn starting_again(rt: HostRuntime) -> Result<(), Fail> {
     let mut memory = [element(9, 9)?; 2];
     let mut list = List::new(&mut memory[..]);
-    assert_eq!(rt; told(list.add(element(5, 0)?)), (0, 0));
-    assert_eq!(rt; told(list.start(0)), (19, 0));
-    assert_eq!(rt; told(list.start(65)), (19, 65));
+    assert_eq!(rt; told_first(list.add(element(5, 0)?)), (0, 0));
+    assert_eq!(rt; told_first(list.start(0)), (19, 0));
+    assert_eq!(rt; told_first(list.start(65)), (19, 65));
     // a refused start leaves the list as it was
     assert_eq!(rt; list.size(), 1);
     assert_eq!(rt; list.is_in(5, 0), true);
-    assert_eq!(rt; told(list.start(64)), (0, 0));
+    assert_eq!(rt; told_first(list.start(64)), (0, 0));
     assert_eq!(rt; list.size(), 64);
     assert_eq!(rt; list.is_in(5, 0), false);
-    assert_eq!(rt; told(list.add(element(5, 63)?)), (0, 0));
+    assert_eq!(rt; told_first(list.add(element(5, 63)?)), (0, 0));
     // a repeated entry takes a place and adds no fact
-    assert_eq!(rt; told(list.add(element(5, 63)?)), (0, 0));
-    assert_eq!(rt; told(list.add(element(5, 63)?)), (7, 2));
+    assert_eq!(rt; told_first(list.add(element(5, 63)?)), (0, 0));
+    assert_eq!(rt; told_first(list.add(element(5, 63)?)), (7, 2));
     assert_eq!(rt; list.is_in(5, 63), true);
     assert_eq!(rt; list.is_in(5, 0), false);
     assert!(rt; list.fault().is_none());
@@ -87,7 +60,7 @@ fn starting_again(rt: HostRuntime) -> Result<(), Fail> {
 fn no_memory_at_all(rt: HostRuntime) -> Result<(), Fail> {
     let mut memory: [Entry; 0] = [];
     let mut list = List::new(&mut memory[..]);
-    assert_eq!(rt; told(list.add(element(5, 0)?)), (7, 0));
+    assert_eq!(rt; told_first(list.add(element(5, 0)?)), (7, 0));
     assert_eq!(rt; list.is_in(5, 0), false);
     Ok(())
 }

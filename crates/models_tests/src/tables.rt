@@ -1,5 +1,6 @@
 // Tables of bits: their length, their size, stray weights and the place of each bit.
-use models::{Fault, Sample, Table};
+use crate::telling::told_first;
+use models::{Sample, Table};
 use std::process::Abort;
 
 // A table of 64 elements, the largest there is: 8 × (256 + 32 × 64) bytes.
@@ -8,11 +9,7 @@ const LARGEST: usize = 18_432;
 // The refusal number of the table's fault and its value, or (0, 0) where it has none.
 fn fault_of(bytes: &[u8], size: u8) -> (u8, usize) {
     match Table::new(bytes, size).fault() {
-        Some(fault) => {
-            let refusal = fault.refusal();
-            let (value, _) = refusal.values();
-            (refusal.number(), value)
-        }
+        Some(fault) => told_first::<()>(Err(fault.into())),
         None => (0, 0),
     }
 }

@@ -6,7 +6,7 @@ ghost use Rattle.models.specs.Meanings.{element_in, linked};
 use super::List;
 use crate::entries::Entry;
 use crate::facts::Fact;
-use crate::samples::{ELEMENT_LIMIT, Fault, Sample};
+use crate::samples::{Fault, Sample, is_sample_size};
 use terms::Refusal;
 
 /// The most entries that a list holds.
@@ -17,19 +17,8 @@ fn first_outside(size: u8, fact: Fact) -> Option<u8>
     ensures { result ≡ outside size fact }
 {
     match fact {
-        Fact::In {
-            concept: _,
-            element,
-        } => { if element < size { None } else { Some(element) } }
-        Fact::Link { role: _, from, to } => {
-            if from >= size {
-                Some(from)
-            } else if to >= size {
-                Some(to)
-            } else {
-                None
-            }
-        }
+        Fact::In { element, .. } => Some(element).filter(|x| *x >= size),
+        Fact::Link { from, to, .. } => [from, to].into_iter().find(|x| *x >= size),
     }
 }
 
@@ -38,12 +27,7 @@ fn some_says(entries: &[Entry], fact: Fact) -> bool
     ensures value { result ≡ says entries.now fact }
     ensures means { Decides result (fact ∈ map fact_of entries.now) }
 {
-    for entry in entries {
-        if fact.is_same(entry.fact()) {
-            return true;
-        }
-    }
-    false
+    entries.iter().any(|entry| fact.is_same(entry.fact()))
 }
 
 impl<'a> List<'a> {
@@ -65,7 +49,7 @@ impl<'a> List<'a> {
         ensures change { contents self.new ≡ changed_unless (start_refusal n) (started (contents self.old) n) (contents self.old) }
         ensures lent { self.new.entries.ghost_name ≡ self.old.entries.ghost_name }
     {
-        if n < 1 || n > ELEMENT_LIMIT {
+        if !is_sample_size(n) {
             return Err(Refusal::SampleMisshapen { size: n as usize });
         }
         self.count = 0;
@@ -95,11 +79,7 @@ impl<'a> List<'a> {
     pub fn entries(&self) -> &[Entry]
         ensures { result.now ≡ held_entries (contents self.now) }
     {
-        if self.count < self.entries.len() {
-            &self.entries[0..self.count]
-        } else {
-            self.entries
-        }
+        &self.entries[..self.count.min(self.entries.len())]
     }
 }
 
@@ -107,7 +87,7 @@ impl Sample for List<'_> {
     ghost meaning = { λ l. list_meaning (contents l) };
 
     fn fault(&self) -> Option<Fault> {
-        if 1 <= self.size && self.size <= ELEMENT_LIMIT {
+        if is_sample_size(self.size) {
             None
         } else {
             Some(Fault::Misshapen {
@@ -124,25 +104,23 @@ impl Sample for List<'_> {
         ensures value { result ≡ element_in (list_meaning (contents self.now)) concept x }
         ensures entry { x < self.now.size → Decides result (Fact.In concept x ∈ map fact_of (held_entries (contents self.now))) }
     {
-        if x < self.size {
-            some_says(
+        x < self.size
+            && some_says(
                 self.entries(),
                 Fact::In {
                     concept,
                     element: x,
                 },
             )
-        } else {
-            false
-        }
     }
 
     fn links(&self, role: u8, x: u8, y: u8) -> bool
         ensures value { result ≡ linked (list_meaning (contents self.now)) role x y }
         ensures entry { x < self.now.size → y < self.now.size → Decides result (Fact.Link role x y ∈ map fact_of (held_entries (contents self.now))) }
     {
-        if x < self.size && y < self.size {
-            some_says(
+        x < self.size
+            && y < self.size
+            && some_says(
                 self.entries(),
                 Fact::Link {
                     role,
@@ -150,8 +128,5 @@ impl Sample for List<'_> {
                     to: y,
                 },
             )
-        } else {
-            false
-        }
     }
 }

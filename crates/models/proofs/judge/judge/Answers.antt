@@ -1,15 +1,8 @@
-use Rattle.std.proofs.Common.{map, Err, ap, ◌∙◌}
+use Rattle.std.proofs.Common.{map, ap, ◌∙◌}
 use Rattle.models.specs.Charts.{sentence_of}
 use Rattle.models.specs.Judging.{judged_from, unless_fault}
 use Rattle.models.proofs.Words.{fails_lowest, passes_exactly}
 use Rattle.models.proofs.judge.judge.Goals as goal
-
-pub returns-in-Some : goal.returns-in-Some
-returns-in-Some g c =
-    let m = g.S.Sample.meaning c.args.sample.now in
-    let ss = map sentence_of c.args.axioms.now in
-    let v = ap Err c.refusal.ensures ∙ ap (λ o. unless_fault o (judged_from m 0 ss)) c.in-Some.ensures in
-    record { value = v; passes = passes_exactly m ss _ v; fails = fails_lowest m ss _ v }
 
 pub returns-in-None : goal.returns-in-None
 returns-in-None g c =

@@ -1,9 +1,0 @@
-use Rattle.std.proofs.Common.{◌≡◌, ◌-◌}
-use Rattle.models.specs.Judging.{filler_at, first_from, lowest}
-use Rattle.models.proofs.judge.has_filler.Given as goal
-
-abbrev pub invariant-loop-y : goal.invariant-loop-y
-invariant-loop-y g l =
-    let m = g.S.Sample.meaning l.sample in
-    let p = filler_at m l.e.code l.a l.wanted l.x in
-    first_from p (m.size - l.y) l.y ≡ lowest p m.size
