@@ -1,6 +1,6 @@
 -- What the entries of a list say. Assumes nothing.
-use Rattle.std.proofs.Common.{◌≡◌, ℕ, ◌<◌, Bool, ◌&&◌, ltb, List, [], ◌∷◌, map, Decides, sym, ap, arith}
-use Rattle.std.proofs.lemmas.Bool.{lt-ltb, true≢false}
+use Rattle.std.proofs.Common.{◌≡◌, ℕ, Bool, List, [], ◌∷◌, map, Decides, sym, arith}
+use Rattle.std.proofs.lemmas.Bool.{true≢false}
 use Rattle.std.proofs.lemmas.Bool.Decides.{Decides-and, Decides-at, Decides-eqb, Decides-like, Decides-or}
 use Rattle.terms.specs.Lists.{◌∈◌}
 use Rattle.models.specs.Facts.{fact_same}
@@ -25,7 +25,3 @@ says_decides (e ∷ es) f = Decides-or _ _ (same_decides f e.fact) (says_decides
 
 pub said : (r : Bool) (es : List Entry) (f : Fact) → r ≡ says es f → Decides r (f ∈ map fact_of es)
 said r es f e = Decides-at r (says es f) e (says_decides es f)
-
--- below the size, the clipped test is the test
-pub clipped : (b : Bool) (x n : ℕ) → x < n → b ≡ (ltb x n && b)
-clipped b x n h = ap (λ t. t && b) (sym (lt-ltb x n h))

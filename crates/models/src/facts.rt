@@ -1,8 +1,10 @@
 // What an entry of a sample list says.
-ghost use Rattle.std.specs.Prelude.{◌≡◌, Decides};
-ghost use Rattle.models.specs.Facts.{fact_in_range, fact_same};
+ghost use Rattle.std.specs.Prelude.{◌≡◌};
+ghost use Rattle.std.proofs.Common.{rules};
+ghost use Rattle.models.specs.Facts.{fact_in_range};
 
 use crate::samples::ELEMENT_LIMIT;
+use terms::Exact;
 use terms::roles::ROLE_NAMES;
 
 /// One fact of a sample.
@@ -26,12 +28,8 @@ impl Fact {
                 && to < ELEMENT_LIMIT,
         }
     }
+}
 
-    /// Whether the two facts are the same.
-    pub fn is_same(self, other: Fact) -> bool
-        ensures value { result ≡ fact_same self other }
-        ensures means { Decides result (self ≡ other) }
-    {
-        self == other
-    }
+impl Exact for Fact {
+    ghost exact = { Prim.search rules };
 }

@@ -7,6 +7,7 @@ ghost use Rattle.models.specs.Tables.{is_shaped, lowest_stray, row, row_bit, tab
 
 use crate::samples::{ELEMENT_LIMIT, Fault, Sample, is_sample_size};
 use terms::roles::ROLE_NAMES;
+use terms::weights::has_weight;
 
 // How many concepts there are, and so how many rows stand before those of the role names.
 const CONCEPT_ROWS: usize = 256;
@@ -50,14 +51,6 @@ fn strays(row: u64, n: u8) -> bool
     ensures { result ≡ nat_le (2 ^ n) row }
 {
     n < ELEMENT_LIMIT && row >> n != 0
-}
-
-// Whether the row has the weight 2^x.
-fn has_weight(row: u64, x: u8) -> bool
-    requires { x < 64 }
-    ensures { result ≡ weight row x }
-{
-    (row >> x) & 1 == 1
 }
 
 impl<'a> Table<'a> {

@@ -27,7 +27,7 @@ fn some_says(entries: &[Entry], fact: Fact) -> bool
     ensures value { result ≡ says entries.now fact }
     ensures means { Decides result (fact ∈ map fact_of entries.now) }
 {
-    entries.iter().any(|entry| fact.is_same(entry.fact()))
+    entries.iter().any(|entry| fact == entry.fact())
 }
 
 impl<'a> List<'a> {

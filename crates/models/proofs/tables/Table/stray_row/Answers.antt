@@ -4,7 +4,6 @@ use Rattle.std.proofs.lemmas.Iterator.{YieldsList-from_slice}
 use Rattle.std.proofs.lemmas.Iterator.Adapters.{position_from-zero}
 use Rattle.std.proofs.lemmas.Iterator.Search.{position_from_yields_List}
 use Rattle.std.specs.List.{position, position_from}
-use Rattle.std.specs.Simd.{first_chunks}
 use Rattle.models.specs.Judging.{lowest}
 use Rattle.models.specs.Tables.{row}
 use Rattle.models.proofs.Bytes.{lowest_row, shape_told}
