@@ -2,13 +2,15 @@
 //! that took, as the least of as many runs as the argument says.
 #![tactic(auto)]
 
-ghost use Rattle.std.specs.Prelude.{◌≡◌, ℕ, ◌-◌, ◌^◌, ◌<◌, true, map, length, is_ok, Some, None, Ok, string_bytes, MatchOption, MatchResult, slice_index};
+ghost use Rattle.std.specs.Prelude.{◌≡◌, ℕ, ◌-◌, ◌^◌, ◌<◌, ◌≤◌, true, map, length, is_ok, Some, None, Ok, string_bytes, MatchOption, MatchResult, slice_index};
 ghost use Rattle.std.specs.Result.{OkIff};
 ghost use Rattle.std.specs.Str.Parse.{IsNumeral, without_leading_plus, digits_value};
+ghost use Rattle.terms.specs.Limits.{role_codes};
+ghost use Rattle.terms.specs.declared.refusals.Refusal.TheVariants.{OutOfRange};
 ghost use Rattle.models.specs.Charts.{sentence_of};
 ghost use Rattle.models.specs.Judging.{verdict};
 ghost use Rattle.models.specs.Tables.{table_meaning};
-ghost use Rattle.judge_bench.specs.Benching.{filled, slow_sentence};
+ghost use Rattle.judge_bench.specs.Benching.{filled, missing, slow_sentence};
 
 use models::judge::judge;
 use models::{Axiom, ConceptAxiom, Table};
@@ -53,28 +55,31 @@ fn run(rt: &HostRuntime) -> anyhow::Result<()> {
 fn slow_axiom() -> Result<Axiom, Refusal>
     ensures { MatchResult result (λ slow. sentence_of slow ≡ slow_sentence) (λ _. ⊥) }
 {
-    let missing = 200;
     let right = [
-        Literal::Exists(Role::new(0)?, missing),
-        Literal::Exists(Role::new(1)?, missing),
-        Literal::Exists(Role::new(2)?, missing),
-        Literal::Exists(Role::new(3)?, missing),
-        Literal::Exists(Role::new(4)?, missing),
-        Literal::Exists(Role::new(5)?, missing),
+        missing(0)?,
+        missing(1)?,
+        missing(2)?,
+        missing(3)?,
+        missing(4)?,
+        missing(5)?,
         Literal::Forall(Role::new(12)?, 0),
     ];
     Ok(Axiom::Implies(ConceptAxiom::new(&[0, 1, 2, 3, 4, 5, 6, 7], &right)?))
 }
 
+// A pair of the role code into the concept 200, which has no element.
+fn missing(code: u8) -> Result<Literal, Refusal>
+    ensures { MatchResult result (λ literal. (below : code < role_codes) → literal ≡ missing code below) (λ refusal. (role_codes ≤ code) × (refusal ≡ OutOfRange 0)) }
+{
+    Ok(Literal::Exists(Role::new(code)?, 200))
+}
+
 // Puts every element into the concepts 0 to 7, and has every role name link every element to every other; the other bytes stay.
-fn fill_table(bytes: &mut [u8])
+fn fill_table(bytes: &mut [u8; TABLE_BYTES])
     ensures { (i : ℕ) → i < length bytes.old → slice_index bytes.new i ≡ filled i (slice_index bytes.old i) }
 {
-    for i in 0..bytes.len() {
-        if i < LEFT_END || i >= ROLES_BEGIN {
-            bytes[i] = 255;
-        }
-    }
+    bytes[..LEFT_END].fill(255);
+    bytes[ROLES_BEGIN..].fill(255);
 }
 
 // How many runs the program's first argument asks for.
@@ -86,10 +91,11 @@ fn wanted_runs(rt: &HostRuntime) -> anyhow::Result<Option<u32>> {
 fn runs_of(argument: Option<String>) -> anyhow::Result<Option<u32>>
     ensures { MatchOption argument (result ≡ Ok None) (λ text. OkIff result (IsNumeral 10 (without_leading_plus (string_bytes text)) × (digits_value 10 (without_leading_plus (string_bytes text)) < 2 ^ 32)) (Some (digits_value 10 (without_leading_plus (string_bytes text))))) }
 {
-    match argument {
-        Some(text) => Ok(Some(text.as_str().parse::<u32>()?)),
-        None => Ok(None),
-    }
+    Ok(
+        argument
+            .map(|text| text.as_str().parse::<u32>())
+            .transpose()?,
+    )
 }
 
 // The least time of that many runs, in microseconds, and the greatest number where there is none. Every axiom is to hold in each run.

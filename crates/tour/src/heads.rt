@@ -1,9 +1,8 @@
 // The head that two premises resolve to.
-ghost use Rattle.std.specs.Prelude.{◌≡◌, ◌<◌, length, MatchResult};
+ghost use Rattle.std.specs.Prelude.{◌≡◌, MatchResult};
 ghost use Rattle.terms.specs.Lists.{removal, union};
 ghost use Rattle.terms.specs.Literals.{literal_precedes};
 ghost use Rattle.terms.specs.Shorts.{held};
-ghost use Rattle.terms.specs.declared.refusals.Refusal.TheVariants.{HeadTooLong};
 ghost use Rattle.tour.specs.Heads.{HeadOrRefusal};
 
 use terms::lists::{join, without};
@@ -12,20 +11,16 @@ use terms::{Literal, Refusal, Short};
 /// The most literals that a head has.
 pub const HEAD_LIMIT: usize = 12;
 
-// The most that two heads have together.
-const TWO_HEADS: usize = 24;
-
 /// A rising list of literals.
 pub type Head = Short<Literal, HEAD_LIMIT>;
 
 /// The head of these literals, which are to be at most 12.
 pub fn head_of(literals: &[Literal]) -> Result<Head, Refusal>
-    ensures { MatchResult result (λ head. held head ≡ literals.now) (λ e. (e ≡ HeadTooLong 12) × (12 < length literals.now)) }
+    ensures { HeadOrRefusal result literals.now }
 {
-    match Short::from_slice(literals, Literal::Concept(0)) {
-        Some(head) => Ok(head),
-        None => Err(Refusal::HeadTooLong { limit: HEAD_LIMIT }),
-    }
+    Short::from_slice(literals, Literal::Concept(0)).ok_or(Refusal::HeadTooLong {
+        limit: HEAD_LIMIT,
+    })
 }
 
 // The head without one literal, which is never refused.
@@ -41,14 +36,14 @@ fn head_without(head: &Head, literal: Literal) -> Result<Head, Refusal>
 fn join_heads(first: &Head, second: &Head) -> Result<Head, Refusal>
     ensures { HeadOrRefusal result (union literal_precedes (held first.now) (held second.now)) }
 {
-    let mut both = [Literal::Concept(0); TWO_HEADS];
+    let mut both = [Literal::Concept(0); 2 * HEAD_LIMIT];
     let n = join(first.as_slice(), second.as_slice(), &mut both)?;
     head_of(&both[0..n])
 }
 
 /// The head that two premises resolve to: each premise's head without its own literal, joined.
 pub fn resolvent(first: &Head, own: Literal, second: &Head, other: Literal) -> Result<Head, Refusal>
-    ensures { MatchResult result (λ head. held head ≡ union literal_precedes (removal literal_precedes own (held first.now)) (removal literal_precedes other (held second.now))) (λ e. (e ≡ HeadTooLong 12) × (12 < length (union literal_precedes (removal literal_precedes own (held first.now)) (removal literal_precedes other (held second.now))))) }
+    ensures { HeadOrRefusal result (union literal_precedes (removal literal_precedes own (held first.now)) (removal literal_precedes other (held second.now))) }
 {
     let left = head_without(first, own)?;
     let right = head_without(second, other)?;

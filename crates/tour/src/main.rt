@@ -45,14 +45,13 @@ fn show_roles(rt: &impl Print) -> anyhow::Result<()> {
     }
     let mut reach = Reach::new();
     enter(rt, &mut reach, 0, 4)?;
-    ask(rt, &reach, 0, 4)?;
-    ask(rt, &reach, 1, 5)?;
-    ask(rt, &reach, 1, 4)?;
-    ask(rt, &reach, 4, 0)?;
+    for (e, s) in [(0, 4), (1, 5), (1, 4), (4, 0)] {
+        ask(rt, &reach, e, s)?;
+    }
     enter(rt, &mut reach, 3, 1)?;
-    ask(rt, &reach, 3, 1)?;
-    ask(rt, &reach, 2, 0)?;
-    ask(rt, &reach, 2, 1)?;
+    for (e, s) in [(3, 1), (2, 0), (2, 1)] {
+        ask(rt, &reach, e, s)?;
+    }
     for code in 0..SHOWN_CODES {
         list_reached(rt, &reach, code)?;
     }

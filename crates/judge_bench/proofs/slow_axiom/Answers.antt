@@ -1,25 +1,28 @@
-use Rattle.std.proofs.Common.{◌≡◌, ℕ, ◌<◌, [], ◌∷◌, ◌∙◌, lit<}
-use Rattle.terms.specs.Limits.{role_codes}
-use Rattle.terms.specs.declared.literals.Literal.TheVariants.{Exists, Forall}
-use Rattle.terms.specs.declared.roles.Role.{Role}
+use Rattle.std.proofs.Common.{◌≡◌, [], ◌∷◌, ◌∙◌, ap, sym, lit<}
 use Rattle.terms.specs.Codes.{role_same}
+use Rattle.terms.specs.declared.literals.Literal.{Literal}
+use Rattle.terms.specs.declared.literals.Literal.TheVariants.{Forall}
+use Rattle.models.specs.Charts.{sides_refusal}
 use Rattle.models.specs.Semantics.{implies}
-use Rattle.judge_bench.specs.Benching.{role_of}
+use Rattle.judge_bench.specs.Benching.{missing, role_of}
 use Rattle.judge_bench.proofs.slow_axiom.Goals as goal
 
--- the role that was made is the role of its code
-known : (role : Role) (E : ℕ) (below : E < role_codes) → role.code ≡ E → role ≡ role_of E below
-known role E below is = role_same role (role_of E below) is
+-- seven literals that are those of the slow axiom
+same_right : (a b c d e f g : Literal) → a ≡ missing 0 (lit< tt) → b ≡ missing 1 (lit< tt) → c ≡ missing 2 (lit< tt) → d ≡ missing 3 (lit< tt) → e ≡ missing 4 (lit< tt) → f ≡ missing 5 (lit< tt) → g ≡ Forall (role_of 12 (lit< tt)) 0
+    → a ∷ b ∷ c ∷ d ∷ e ∷ f ∷ g ∷ [] ≡ missing 0 (lit< tt) ∷ missing 1 (lit< tt) ∷ missing 2 (lit< tt) ∷ missing 3 (lit< tt) ∷ missing 4 (lit< tt) ∷ missing 5 (lit< tt) ∷ Forall (role_of 12 (lit< tt)) 0 ∷ []
+same_right a b c d e f g p q r s t u v = λ i. p i ∷ q i ∷ r i ∷ s i ∷ t i ∷ u i ∷ v i ∷ []
+
+pub returns-in_err-new-2 : goal.returns-in_err-new-2
+returns-in_err-new-2 c =
+    let last = ap (λ role. Forall role 0) (role_same c.in_ok-new.field-0 (role_of 12 (lit< tt)) c.in_ok-new.ensures) in
+    let right = same_right _ _ _ _ _ _ _ (c.in_ok-missing.ensures (lit< tt)) (c.in_ok-missing-2.ensures (lit< tt)) (c.in_ok-missing-3.ensures (lit< tt)) (c.in_ok-missing-4.ensures (lit< tt)) (c.in_ok-missing-5.ensures (lit< tt)) (c.in_ok-missing-6.ensures (lit< tt)) last in
+    let none = sym (ap (sides_refusal (0 ∷ 1 ∷ 2 ∷ 3 ∷ 4 ∷ 5 ∷ 6 ∷ 7 ∷ [])) right) ∙ c.in_err-new-2.ensures in
+    cc
 
 pub returns : goal.returns
 returns c =
-    let zero = known c.in_ok-new.field-0 0 (lit< tt) c.in_ok-new.ensures in
-    let one = known c.in_ok-new-2.field-0 1 (lit< tt) c.in_ok-new-2.ensures in
-    let two = known c.in_ok-new-3.field-0 2 (lit< tt) c.in_ok-new-3.ensures in
-    let three = known c.in_ok-new-4.field-0 3 (lit< tt) c.in_ok-new-4.ensures in
-    let four = known c.in_ok-new-5.field-0 4 (lit< tt) c.in_ok-new-5.ensures in
-    let five = known c.in_ok-new-6.field-0 5 (lit< tt) c.in_ok-new-6.ensures in
-    let twelve = known c.in_ok-new-7.field-0 12 (lit< tt) c.in_ok-new-7.ensures in
-    let sides = c.in_ok-new-8.ensures in
-    let right = sides.1 ∙ (λ i. Exists (zero i) 200 ∷ Exists (one i) 200 ∷ Exists (two i) 200 ∷ Exists (three i) 200 ∷ Exists (four i) 200 ∷ Exists (five i) 200 ∷ Forall (twelve i) 0 ∷ []) in
-    λ i. implies (sides.0 i) (right i)
+    let last = ap (λ role. Forall role 0) (role_same c.in_ok-new.field-0 (role_of 12 (lit< tt)) c.in_ok-new.ensures) in
+    let right = same_right _ _ _ _ _ _ _ (c.in_ok-missing.ensures (lit< tt)) (c.in_ok-missing-2.ensures (lit< tt)) (c.in_ok-missing-3.ensures (lit< tt)) (c.in_ok-missing-4.ensures (lit< tt)) (c.in_ok-missing-5.ensures (lit< tt)) (c.in_ok-missing-6.ensures (lit< tt)) last in
+    let sides = c.in_ok-new-2.ensures in
+    let whole = sides.1 ∙ right in
+    λ i. implies (sides.0 i) (whole i)

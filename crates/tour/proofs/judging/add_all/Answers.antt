@@ -1,7 +1,8 @@
-use Rattle.std.proofs.Common.{◌≡◌, ℕ, ◌+◌, ◌<◌, List, ◌∷◌, length, get_or, drop, Some, None, Ok, Err, Option, sym, refl, ap, ◌∙◌, arith}
-use Rattle.std.proofs.lemmas.List.{drop_all, drop_more}
+use Rattle.std.proofs.Common.{◌≡◌, List, ◌∷◌, Some, None, Ok, Err, Option, sym, refl, ap, ◌∙◌, arith}
+use Rattle.std.proofs.lemmas.List.{drop_all}
 use Rattle.std.proofs.lemmas.Result.{err_from_is_err_and}
 use Rattle.terms.specs.declared.refusals.Refusal.{Refusal}
+use Rattle.terms.proofs.Turns.{drop_read}
 use Rattle.models.specs.Charts.{first_refusal}
 use Rattle.models.specs.Listed.{Kept, add_refusal, added, changed_unless, contents, unless_refused}
 use Rattle.models.specs.declared.entries.Entry.{Entry}
@@ -16,10 +17,6 @@ none_refused (Some d) u e = cc
 one_refused : (o : Option Refusal) (d : Refusal) → Err d ≡ unless_refused o → o ≡ Some d
 one_refused None d e = cc
 one_refused (Some x) d e = cc
-
--- the entries from one on
-from_item : (entries : List Entry) (i : ℕ) (e : Entry) → i < length entries → e ≡ get_or entries i e → drop i entries ≡ e ∷ drop (i + 1) entries
-from_item entries i e lt is = drop_more entries i e lt ∙ ap (λ x. x ∷ drop (i + 1) entries) (sym is)
 
 -- after an entry that is added the rest comes to what all came to before
 goes_on : (k k' : Kept) (e : Entry) (left rest : List Entry) (first : Option Refusal) (last : Kept) → left ≡ e ∷ rest → add_refusal k e ≡ None → k' ≡ changed_unless (add_refusal k e) (added k e) k → fill_refusal k left ≡ first → filled k left ≡ last → (fill_refusal k' rest ≡ first) × (filled k' rest ≡ last)
@@ -43,7 +40,7 @@ stops k k' e left rest d first last cut p q f g = (
 pub returns-in_err-add : goal.returns-in_err-add
 returns-in_err-add c =
     let told = c.in_err-add.ensures in
-    let cut = from_item c.args.entries.now c.loop-item.item-index c.item-item.result (omega arith) c.item-item.is in
+    let cut = drop_read c.args.entries.now c.loop-item.item-index c.item-item.result (omega arith) c.item-item.is in
     let at = stops _ _ _ _ _ _ _ _ cut (one_refused _ _ told.answer) told.change c.loop-item.invariant.0 c.loop-item.invariant.1 in
     let p = err_from_is_err_and c.from_residual.result c.from_residual.ensures.1 in
     record { answer = p.1 ∙ ap Err p.2 ∙ ap unless_refused at.0; change = at.1; lent = told.lent ∙ c.loop-item.invariant.2 }
@@ -51,7 +48,7 @@ returns-in_err-add c =
 pub loop-item-preserved : goal.loop-item-preserved
 loop-item-preserved c =
     let told = c.in_ok-add.ensures in
-    let cut = from_item c.args.entries.now c.loop-item.item-index c.item-item.result (omega arith) c.item-item.is in
+    let cut = drop_read c.args.entries.now c.loop-item.item-index c.item-item.result (omega arith) c.item-item.is in
     let at = goes_on _ _ _ _ _ _ _ cut (none_refused _ _ told.answer) told.change c.loop-item.invariant.0 c.loop-item.invariant.1 in
     (at.0, at.1, told.lent ∙ c.loop-item.invariant.2)
 
