@@ -1,45 +1,28 @@
 -- Concept axioms made of lists that were not refused. Assumes nothing.
-use Rattle.std.proofs.Common.{◌≡◌, ℕ, ◌≤◌, Bool, true, ltb, List, map, length, Some, None, Ok, Err, Result, sym, refl, ap, ◌∙◌, MatchResult}
-use Rattle.std.proofs.lemmas.List.{take_all}
+use Rattle.std.proofs.Common.{◌≡◌, ℕ, ◌≤◌, Bool, true, List, map, length, nat_lt, Some, None, Ok, Err, Result, sym, ap, ◌∙◌, MatchResult}
+use Rattle.std.proofs.lemmas.List.{map-id, take_all}
 use Rattle.std.proofs.lemmas.Bool.{cond-true, le-leb}
 use Rattle.terms.specs.Lists.{rising}
 use Rattle.terms.specs.Literals.{literal_precedes}
 use Rattle.terms.specs.Shorts.{held, list_refusal}
 use Rattle.terms.specs.declared.literals.Literal.{Literal}
-use Rattle.terms.specs.declared.literals.Literal.TheVariants.{Concept, Exists, Forall}
 use Rattle.terms.specs.declared.refusals.Refusal.{Refusal}
 use Rattle.models.specs.Charts.{sides_refusal}
 use Rattle.models.specs.declared.axioms.ConceptAxiom.{ConceptAxiom}
 use Rattle.forms.specs.Items.{MadeOrRefused}
-use Rattle.forms.specs.Numbers.{axiom_numbers, axiom_refusal, literal_numbers, literals_refusal, numbers_precede}
+use Rattle.forms.specs.Numbers.{axiom_numbers, axiom_refusal, literal_numbers}
 use Rattle.forms.specs.declared.numbers.LiteralNumbers.{LiteralNumbers}
-use Rattle.forms.proofs.Passed.{rises, some_none}
 use Rattle.forms.proofs.Turns.{first_none}
-
--- literals are ordered as their numbers are
-pub agree : (x y : Literal) → numbers_precede (literal_numbers x) (literal_numbers y) ≡ literal_precedes x y
-agree (Concept A) (Concept B) = refl
-agree (Concept A) (Exists F B) = refl
-agree (Concept A) (Forall F B) = refl
-agree (Exists E A) (Concept B) = refl
-agree (Exists E A) (Exists F B) = refl
-agree (Exists E A) (Forall F B) = refl
-agree (Forall E A) (Concept B) = refl
-agree (Forall E A) (Exists F B) = refl
-agree (Forall E A) (Forall F B) = refl
-
-pub literals_rise : (limit : ℕ) (xs : List Literal) (stated : List LiteralNumbers) → map literal_numbers xs ≡ stated → literals_refusal limit stated ≡ None → rising literal_precedes xs ≡ true
-literals_rise limit xs stated same passes = rises _ numbers_precede literal_numbers literal_precedes agree limit _ xs (ap (literals_refusal limit) same ∙ passes)
 
 list_passes : {X : Type 0} (lt : X → X → Bool) (limit : ℕ) (xs : List X) → length xs ≤ limit → rising lt xs ≡ true → list_refusal lt limit xs ≡ None
 list_passes lt limit xs few rise = cond-true _ _ _ (ap (rising lt) (take_all limit xs few) ∙ rise) ∙ cond-true _ _ _ (le-leb _ _ few)
 
-pub sides_pass : (left : List ℕ) (right : List Literal) → length left ≤ 8 → length right ≤ 8 → rising ltb left ≡ true → rising literal_precedes right ≡ true → sides_refusal left right ≡ None
-sides_pass left right few few' rise rise' = first_none _ _ (list_passes ltb 8 left few rise) ∙ list_passes literal_precedes 8 right few' rise'
+pub sides_pass : (left : List ℕ) (right : List Literal) → length left ≤ 8 → length right ≤ 8 → rising nat_lt left ≡ true → rising literal_precedes right ≡ true → sides_refusal left right ≡ None
+sides_pass left right few few' rise rise' = first_none _ _ (list_passes nat_lt 8 left few rise) ∙ list_passes literal_precedes 8 right few' rise'
 
-pub axiom_made : (stated : List ℕ × List LiteralNumbers) (left : List ℕ) (right : List Literal) (r : Result ConceptAxiom Refusal) → left ≡ stated.0 → map literal_numbers right ≡ stated.1
-    → axiom_refusal stated ≡ None → sides_refusal left right ≡ None
+pub axiom_made : (stated : List ℕ × List LiteralNumbers) (left : List ℕ) (right : List Literal) (r : Result ConceptAxiom Refusal)
+    → map (λ A. A) left ≡ stated.0 → map literal_numbers right ≡ stated.1 → axiom_refusal stated ≡ None → sides_refusal left right ≡ None
     → MatchResult r (λ a. (held a.left ≡ left) × (held a.right ≡ right) × (sides_refusal left right ≡ None)) (λ e. sides_refusal left right ≡ Some e)
     → MadeOrRefused axiom_numbers axiom_refusal stated r
-axiom_made stated left right (Ok a) l r free pass made = (λ i. ((made.0 ∙ l) i, (ap (map literal_numbers) made.1 ∙ r) i), free)
-axiom_made stated left right (Err e) l r free pass refused = absurd (some_none e (sym refused ∙ pass))
+axiom_made stated left right (Ok a) l r free pass made = (λ i. ((made.0 ∙ sym (map-id left) ∙ l) i, (ap (map literal_numbers) made.1 ∙ r) i), free)
+axiom_made stated left right (Err e) l r free pass refused = let never : Some e ≡ None = sym refused ∙ pass in absurd cc

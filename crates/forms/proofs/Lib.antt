@@ -1,3 +1,4 @@
 pub mod Implied
+pub mod Listed
 pub mod Passed
 pub mod Turns

@@ -1,5 +1,5 @@
 -- What keeps a number, or a list of items that numbers state, from being part of a form. Assumes nothing.
-use Rattle.std.specs.Prelude.{◌≡◌, ℕ, ◌-◌, Bool, true, cond, List, [], ◌∷◌, Some, None, Option, Result, MatchResult, ◌==◌, nat_lt}
+use Rattle.std.specs.Prelude.{◌≡◌, ℕ, ◌-◌, Bool, true, cond, List, [], ◌∷◌, Some, None, Option, Result, MatchResult, is_none, ◌==◌, nat_lt}
 use Rattle.terms.specs.declared.refusals.Refusal.{Refusal}
 use Rattle.terms.specs.declared.refusals.Refusal.TheVariants.{NotRising, OutOfRange, TooLong}
 use Rattle.models.specs.Charts.{first_refusal}
@@ -23,3 +23,7 @@ abbrev pub items_refusal : {Y : Type 0} → (Y → Option Refusal) → (Y → Y 
 items_refusal refused follows room last [] = None
 items_refusal refused follows room last (y ∷ ys) =
     cond (room == 0) (Some (TooLong 0)) (first_refusal (refused y) (cond (may_stand follows last y) (items_refusal refused follows (room - 1) (Some y) ys) (Some (NotRising 0))))
+
+-- the numbers state a list of at most `limit` items
+abbrev pub listable : {Y : Type 0} → (Y → Option Refusal) → (Y → Y → Bool) → ℕ → List Y → Bool
+listable refused follows limit ys = is_none (items_refusal refused follows limit None ys)

@@ -69,3 +69,6 @@ axiom_numbers a = (held a.left, map literal_numbers (held a.right))
 
 abbrev pub axiom_refusal : List ℕ × List LiteralNumbers → Option Refusal
 axiom_refusal s = first_refusal (concepts_refusal s.0) (literals_refusal list_limit s.1)
+
+abbrev pub subsumption_refusal : List ℕ × List ℕ → Option Refusal
+subsumption_refusal s = first_refusal (concepts_refusal s.0) (concepts_refusal s.1)

@@ -2,16 +2,19 @@
 #![tactic(auto)]
 
 pub mod formed;
-pub mod kinds;
 pub mod limits;
 pub mod lists;
 pub mod numbered;
 mod numbering;
 pub mod numbers;
-pub mod rising;
+pub mod ranges;
 pub mod sides;
+pub mod steps;
 
 pub use formed::Form;
-pub use kinds::Kind;
+pub use lists::Items;
+pub use numbered::Numbered;
 pub use numbers::{LiteralNumbers, SideNumbers};
+pub use ranges::{AxiomNumber, Below, ClauseNumber, ContextNumber};
 pub use sides::Side;
+pub use steps::{Claim, Concepts, CoreStep, HyperStep, PredStep, Premises, Sides, Subsumption};

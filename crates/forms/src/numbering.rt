@@ -1,73 +1,31 @@
-// Numbers, roles, concepts, clause numbers and literals, each made of numbers that are to be in their ranges.
-ghost use Rattle.std.specs.Prelude.{◌≡◌, ◌<◌, true, IfOk, nat_lt};
+// Roles, concepts and literals, each made of numbers that are to be in their ranges.
+ghost use Rattle.std.specs.Prelude.{◌≡◌, nat_lt};
 ghost use Rattle.terms.specs.Limits.{concepts, role_codes};
 ghost use Rattle.forms.specs.Items.{MadeOrRefused, range_refusal};
-ghost use Rattle.forms.specs.Limits.{axiom_limit, clause_limit, context_limit};
 ghost use Rattle.forms.specs.Numbers.{literal_numbers, literal_refused, numbers_precede};
+ghost use Rattle.forms.specs.declared.numbers.LiteralNumbers.TheVariants as stated;
 
-use crate::limits::{AXIOM_LIMIT, CLAUSE_LIMIT, CONTEXT_LIMIT};
 use crate::numbered::Numbered;
 use crate::numbers::LiteralNumbers;
+use crate::ranges::Below;
 use terms::roles::ROLE_CODES;
 use terms::{Literal, Ordered, Refusal, Role};
 
-// How many concepts there are.
-const CONCEPTS: u32 = 256;
-
-// The number, which is to be below the limit.
-fn below(number: u32, limit: u32) -> Result<u32, Refusal>
-    ensures value { MadeOrRefused (λ n. n) (range_refusal limit) number result }
-    ensures range { IfOk result (λ n. n < limit) }
-{
-    if number < limit {
-        Ok(number)
-    } else {
-        Err(Refusal::OutOfRange { at: 0 })
-    }
-}
-
-/// The number of a context, below 64.
-pub(crate) fn context_of(number: u32) -> Result<u8, Refusal>
-    ensures value { MadeOrRefused (λ n. n) (range_refusal context_limit) number result }
-    ensures range { IfOk result (λ n. n < context_limit) }
-{
-    Ok(below(number, CONTEXT_LIMIT as u32)? as u8)
-}
-
-/// The number of an axiom, below 256.
-pub(crate) fn axiom_of(number: u32) -> Result<u8, Refusal>
-    ensures { MadeOrRefused (λ n. n) (range_refusal axiom_limit) number result }
-{
-    Ok(below(number, AXIOM_LIMIT as u32)? as u8)
-}
-
-/// The number of a clause, below 512.
-pub(crate) fn clause_of(number: u32) -> Result<u16, Refusal>
-    ensures value { MadeOrRefused (λ n. n) (range_refusal clause_limit) number result }
-    ensures range { IfOk result (λ n. n < clause_limit) }
-{
-    Ok(below(number, CLAUSE_LIMIT as u32)? as u16)
-}
+// How many role codes there are.
+const ROLES: usize = ROLE_CODES as usize;
 
 /// The role of a code, below 64.
 pub(crate) fn role_of(code: u32) -> Result<Role, Refusal>
     ensures { MadeOrRefused (λ role. role.code) (range_refusal role_codes) code result }
 {
-    Role::new(below(code, ROLE_CODES as u32)? as u8)
-}
-
-/// The role of code 0, for parts that say nothing.
-pub(crate) fn role_zero() -> Role
-    ensures { result.code ≡ 0 }
-{
-    match Role::new(0) {
-        Ok(role) => role,
-        Err(_) => unreachable(),
-    }
+    let code = Below::<ROLES>::new(code)?;
+    Role::new(code.number() as u8)
 }
 
 impl Numbered for u8 {
     type Numbers = u32;
+
+    ghost zero = { 0 };
 
     ghost numbers = { λ A. A };
 
@@ -75,8 +33,13 @@ impl Numbered for u8 {
 
     ghost follows = { nat_lt };
 
+    fn filler() -> u8 {
+        0
+    }
+
+    // u8's own TryFrom answers with an error that is no refusal.
     fn from_numbers(stated: u32) -> Result<u8, Refusal> {
-        Ok(below(stated, CONCEPTS)? as u8)
+        u8::try_from(stated).map_err(|_| Refusal::OutOfRange { at: 0 })
     }
 
     fn may_follow(&self, last: &u8) -> bool {
@@ -84,32 +47,20 @@ impl Numbered for u8 {
     }
 }
 
-impl Numbered for u16 {
-    type Numbers = u32;
-
-    ghost numbers = { λ n. n };
-
-    ghost refused = { range_refusal clause_limit };
-
-    ghost follows = { λ _ _. true };
-
-    fn from_numbers(stated: u32) -> Result<u16, Refusal> {
-        clause_of(stated)
-    }
-
-    fn may_follow(&self, _last: &u16) -> bool {
-        true
-    }
-}
-
 impl Numbered for Literal {
     type Numbers = LiteralNumbers;
+
+    ghost zero = { stated.Concept 0 };
 
     ghost numbers = { literal_numbers };
 
     ghost refused = { literal_refused };
 
     ghost follows = { numbers_precede };
+
+    fn filler() -> Literal {
+        Literal::Concept(0)
+    }
 
     fn from_numbers(stated: LiteralNumbers) -> Result<Literal, Refusal> {
         match stated {

@@ -6,7 +6,7 @@ pub mod methods;
 /// A side of a pred step: the clause that it names is to have `all role concept`.
 #[derive(Clone, Copy)]
 pub struct Side {
-    clause: u16,
-    role: Role,
-    concept: u8,
+    pub clause: u16,
+    pub role: Role,
+    pub concept: u8,
 }

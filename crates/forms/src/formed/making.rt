@@ -1,72 +1,45 @@
 // How forms are made of numbers. They are looked at from the left, as a line would be read.
-ghost use Rattle.std.specs.Prelude.{◌≡◌, []};
-ghost use Rattle.forms.specs.Forms.{Blank, FormOrRefusal, QuestionOrRefusal, statement_of};
+ghost use Rattle.std.specs.Prelude.{◌≡◌};
+ghost use Rattle.forms.specs.Forms.{FormOrRefusal, statement_of, subsumption_numbers};
 ghost use Rattle.forms.specs.Items.{MadeOrRefused};
-ghost use Rattle.forms.specs.Numbers.{axiom_numbers, axiom_refusal};
+ghost use Rattle.forms.specs.Numbers.{axiom_numbers, axiom_refusal, subsumption_refusal};
 ghost use Rattle.forms.specs.Statements.{ask_form, axiom_form, close_form, context_form, core_form, hyper_form, pred_form, refute_form, under_form};
 
 use super::Form;
-use crate::kinds::Kind;
 use crate::limits::LIST_LIMIT;
-use crate::lists::list_of;
+use crate::lists::Items;
 use crate::numbered::Numbered;
-use crate::numbering::{axiom_of, clause_of, context_of, role_of, role_zero};
+use crate::numbering::role_of;
 use crate::numbers::{LiteralNumbers, SideNumbers};
-use crate::rising::{Claim, Concepts, Premises, Sides};
+use crate::ranges::{AxiomNumber, ClauseNumber, ContextNumber};
+use crate::steps::{Claim, Concepts, CoreStep, HyperStep, PredStep, Premises, Sides, Subsumption};
 use models::ConceptAxiom;
 use terms::{Literal, Refusal};
 
 // The axiom that these numbers state.
-fn implied_of(left: &[u32], right: &[LiteralNumbers]) -> Result<ConceptAxiom, Refusal>
+fn axiom_of(left: &[u32], right: &[LiteralNumbers]) -> Result<ConceptAxiom, Refusal>
     ensures { MadeOrRefused axiom_numbers axiom_refusal (left.now, right.now) result }
 {
     let left = Concepts::new(left)?;
-    let right = list_of::<Literal, LIST_LIMIT>(right, Literal::Concept(0))?;
-    ConceptAxiom::new(left.list().as_slice(), right.as_slice())
+    let right = Items::<Literal, LIST_LIMIT>::new(right)?;
+    ConceptAxiom::new(left.as_slice(), right.as_slice())
 }
 
-// An axiom with nothing on its sides, for forms of other kinds.
-fn nothing_implied() -> ConceptAxiom
-    ensures { axiom_numbers result ≡ ([], []) }
+// The subsumption that these numbers state.
+fn subsumption_of(left: &[u32], right: &[u32]) -> Result<Subsumption, Refusal>
+    ensures { MadeOrRefused subsumption_numbers subsumption_refusal (left.now, right.now) result }
 {
-    match ConceptAxiom::new(&[], &[]) {
-        Ok(implied) => implied,
-        Err(_) => unreachable(),
-    }
+    let left = Concepts::new(left)?;
+    let right = Concepts::new(right)?;
+    Ok(Subsumption { left, right })
 }
 
 impl Form {
-    // A form of this kind whose parts are empty or 0.
-    fn blank(kind: Kind) -> Form
-        ensures kind { result.kind ≡ kind }
-        ensures parts { Blank result }
-    {
-        Form {
-            kind,
-            context: 0,
-            number: 0,
-            first: 0,
-            far: 0,
-            role: role_zero(),
-            upper: role_zero(),
-            concept: 0,
-            implied: nothing_implied(),
-            concepts: Concepts::none(),
-            others: Concepts::none(),
-            premises: Premises::none(),
-            sides: Sides::none(),
-            claim: Claim::none(),
-        }
-    }
-
     /// To enter the axiom that each element in all the left concepts is in at least one right literal.
     pub fn axiom(left: &[u32], right: &[LiteralNumbers]) -> Result<Form, Refusal>
         ensures { FormOrRefusal (axiom_form left.now right.now) result }
     {
-        let implied = implied_of(left, right)?;
-        let mut form = Form::blank(Kind::Axiom);
-        form.implied = implied;
-        Ok(form)
+        Ok(Form::Axiom(axiom_of(left, right)?))
     }
 
     /// To enter the inclusion of the role code e under s.
@@ -75,39 +48,30 @@ impl Form {
     {
         let role = role_of(e)?;
         let upper = role_of(s)?;
-        let mut form = Form::blank(Kind::Under);
-        form.role = role;
-        form.upper = upper;
-        Ok(form)
+        Ok(Form::Under { role, upper })
     }
 
     /// To close the book.
     pub fn close() -> Form
         ensures { statement_of result ≡ close_form }
     {
-        Form::blank(Kind::Close)
+        Form::Close
     }
 
     /// To open a context with this core.
     pub fn context(core_concepts: &[u32]) -> Result<Form, Refusal>
         ensures { FormOrRefusal (context_form core_concepts.now) result }
     {
-        let concepts = Concepts::new(core_concepts)?;
-        let mut form = Form::blank(Kind::Context);
-        form.concepts = concepts;
-        Ok(form)
+        Ok(Form::Context(Concepts::new(core_concepts)?))
     }
 
     /// To enter the clause of the core step for the concept a of the core of context v.
     pub fn core(v: u32, a: u32) -> Result<Form, Refusal>
         ensures { FormOrRefusal (core_form v a) result }
     {
-        let context = context_of(v)?;
+        let context = ContextNumber::new(v)?;
         let concept = u8::from_numbers(a)?;
-        let mut form = Form::blank(Kind::Core);
-        form.context = context;
-        form.concept = concept;
-        Ok(form)
+        Ok(Form::Core(CoreStep { context, concept }))
     }
 
     /// To enter the claim in context v by a hyper step, from axiom x and a premise for each of its left concepts.
@@ -119,16 +83,16 @@ impl Form {
     ) -> Result<Form, Refusal>
         ensures { FormOrRefusal (hyper_form v x premises.now claim.now) result }
     {
-        let context = context_of(v)?;
-        let number = axiom_of(x)?;
+        let context = ContextNumber::new(v)?;
+        let axiom = AxiomNumber::new(x)?;
         let premises = Premises::new(premises)?;
         let claim = Claim::new(claim)?;
-        let mut form = Form::blank(Kind::Hyper);
-        form.context = context;
-        form.number = number;
-        form.premises = premises;
-        form.claim = claim;
-        Ok(form)
+        Ok(Form::Hyper(HyperStep {
+            context,
+            axiom,
+            premises,
+            claim,
+        }))
     }
 
     /// To enter the claim in context v by a pred step, from `some e a` in clause p, the sides, and clause q of the far context.
@@ -143,47 +107,35 @@ impl Form {
     ) -> Result<Form, Refusal>
         ensures { FormOrRefusal (pred_form v p e a sides.now q claim.now) result }
     {
-        let context = context_of(v)?;
-        let first = clause_of(p)?;
+        let context = ContextNumber::new(v)?;
+        let first = ClauseNumber::new(p)?;
         let role = role_of(e)?;
         let concept = u8::from_numbers(a)?;
         let sides = Sides::new(sides)?;
-        let far = clause_of(q)?;
+        let far = ClauseNumber::new(q)?;
         let claim = Claim::new(claim)?;
-        let mut form = Form::blank(Kind::Pred);
-        form.context = context;
-        form.first = first;
-        form.role = role;
-        form.concept = concept;
-        form.sides = sides;
-        form.far = far;
-        form.claim = claim;
-        Ok(form)
+        Ok(Form::Pred(PredStep {
+            context,
+            first,
+            role,
+            concept,
+            sides,
+            far,
+            claim,
+        }))
     }
 
     /// To ask whether a clause shows the subsumption of k by m.
     pub fn ask(k: &[u32], m: &[u32]) -> Result<Form, Refusal>
         ensures { FormOrRefusal (ask_form k.now m.now) result }
     {
-        Form::question(Kind::Ask, k, m)
+        Ok(Form::Ask(subsumption_of(k, m)?))
     }
 
     /// To ask whether a sample refutes the subsumption of k by m.
     pub fn refute(k: &[u32], m: &[u32]) -> Result<Form, Refusal>
         ensures { FormOrRefusal (refute_form k.now m.now) result }
     {
-        Form::question(Kind::Refute, k, m)
-    }
-
-    // A form of this kind with the concepts of a subsumption.
-    fn question(kind: Kind, k: &[u32], m: &[u32]) -> Result<Form, Refusal>
-        ensures { QuestionOrRefusal kind k.now m.now result }
-    {
-        let concepts = Concepts::new(k)?;
-        let others = Concepts::new(m)?;
-        let mut form = Form::blank(kind);
-        form.concepts = concepts;
-        form.others = others;
-        Ok(form)
+        Ok(Form::Refute(subsumption_of(k, m)?))
     }
 }

@@ -4,41 +4,12 @@ ghost use Rattle.forms.specs.Numbers.{side_numbers, side_refused};
 
 use super::Side;
 use crate::numbered::Numbered;
-use crate::numbering::{clause_of, role_of, role_zero};
+use crate::numbering::role_of;
 use crate::numbers::SideNumbers;
+use crate::ranges::ClauseNumber;
 use terms::{Literal, Refusal, Role};
 
 impl Side {
-    // A side for places that hold nothing.
-    pub(crate) fn filler() -> Side
-        ensures { result.clause ≡ 0 }
-    {
-        Side {
-            clause: 0,
-            role: role_zero(),
-            concept: 0,
-        }
-    }
-
-    /// The number of the clause.
-    pub fn clause(self) -> u16
-        ensures { result ≡ self.clause }
-    {
-        self.clause
-    }
-
-    pub fn role(self) -> Role
-        ensures { result ≡ self.role }
-    {
-        self.role
-    }
-
-    pub fn concept(self) -> u8
-        ensures { result ≡ self.concept }
-    {
-        self.concept
-    }
-
     /// The literal that the clause is to have.
     pub fn literal(self) -> Literal
         ensures { result ≡ Forall self.role self.concept }
@@ -50,14 +21,24 @@ impl Side {
 impl Numbered for Side {
     type Numbers = SideNumbers;
 
+    ghost zero = { record { clause = 0; role = 0; concept = 0 } };
+
     ghost numbers = { side_numbers };
 
     ghost refused = { side_refused };
 
     ghost follows = { λ _ _. true };
 
+    fn filler() -> Side {
+        Side {
+            clause: 0,
+            role: Role::default(),
+            concept: 0,
+        }
+    }
+
     fn from_numbers(stated: SideNumbers) -> Result<Side, Refusal> {
-        let clause = clause_of(stated.clause)?;
+        let clause = ClauseNumber::new(stated.clause)?.number() as u16;
         let role = role_of(stated.role)?;
         let concept = u8::from_numbers(stated.concept)?;
         Ok(Side {
