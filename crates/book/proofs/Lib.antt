@@ -1,6 +1,5 @@
 pub mod Asked
 pub mod Caps
-pub mod Claims
 pub mod Gathers
 pub mod Included
 pub mod Listed

@@ -1,3 +1,4 @@
 pub mod Contents
 pub mod Offers
+pub mod Rows
 pub mod Views

@@ -1,10 +1,9 @@
 -- What an answer of the code holds, in the lists of the register. Assumes nothing.
-use Rattle.std.specs.Prelude.{◌≡◌, ℕ, List, Ok, Err, Result}
+use Rattle.std.specs.Prelude.{ℕ, List, Ok, Err, Result}
 use Rattle.terms.specs.Shorts.{held}
 use Rattle.terms.specs.declared.literals.Literal.{Literal}
 use Rattle.terms.specs.declared.refusals.Refusal.{Refusal}
 use Rattle.models.specs.declared.axioms.ConceptAxiom.{ConceptAxiom}
-use Rattle.calculus.specs.Fronts.{Capped}
 
 -- the answer, with f of what it found
 abbrev pub seen : {X Y : Type 0} → (X → Y) → Result X Refusal → Result Y Refusal
@@ -14,8 +13,3 @@ seen f (Err e) = Err e
 -- the two sides of a concept axiom
 abbrev pub both_sides : ConceptAxiom → List ℕ × List Literal
 both_sides a = (held a.left, held a.right)
-
--- the row that is found is kept in the front of `out`, as far as it has room, and a refusal is the same refusal
-abbrev pub RowIn : List Literal → Result ℕ Refusal → Result (List Literal) Refusal → Type 0
-RowIn out (Ok n) found = (row : List Literal) × (Ok row ≡ found) × Capped out n row
-RowIn out (Err e) found = Err e ≡ found

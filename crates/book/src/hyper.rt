@@ -1,17 +1,16 @@
 // The hyper step: from an axiom, and a premise for each of its left concepts.
-ghost use Rattle.std.specs.Prelude.{◌≡◌, ◌≤◌, List, length, replicate};
+ghost use Rattle.std.specs.Prelude.{◌≡◌, List, [], length, replicate};
 ghost use Rattle.terms.specs.Shorts.{held};
 ghost use Rattle.terms.specs.declared.literals.Literal.{Literal};
 ghost use Rattle.calculus.specs.Checks.{gathered, hyper_check, hyper_row};
 ghost use Rattle.book.specs.Contents.{contents};
 ghost use Rattle.terms.specs.declared.literals.Literal.TheVariants.{Concept};
 ghost use Rattle.calculus.specs.Events.{hyper};
-ghost use Rattle.calculus.specs.Fronts.{Capped};
 ghost use Rattle.calculus.specs.Replies.{after, reply};
-ghost use Rattle.book.specs.Views.{RowIn};
+ghost use Rattle.book.specs.Rows.{Keeps, RowIn};
 
 use crate::checks::{is_claimed, is_count};
-use crate::rows::{put_all, put_but};
+use crate::rows::Row;
 use crate::state::Book;
 use calculus::Answer;
 use forms::limits::HEAD_LIMIT;
@@ -19,41 +18,31 @@ use models::ConceptAxiom;
 use terms::{Literal, Refusal, Short};
 
 impl Book {
-    // Puts what each premise has besides its own concept into the row of the first `start` literals of `out`.
-    fn gather(
-        &self,
-        v: u8,
-        left: &[u8],
-        premises: &[u16],
-        out: &mut [Literal],
-        start: usize,
-    ) -> Result<usize, Refusal>
-        requires as_many { length premises.now ≡ length left.now }
-        requires fits { start ≤ length out.old }
-        ensures { (row : List Literal) → Capped out.old start row → RowIn out.new result (gathered (contents self.now).clauses v left.now premises.now row) }
+    // Puts what each premise has besides its own concept into the row.
+    fn gather(&self, v: u8, left: &[u8], premises: &[u16], row: &mut Row<'_>) -> Result<(), Refusal>
+        ensures { (start : List Literal) → Keeps row.old start → RowIn row.new result (gathered (contents self.now).clauses v left.now premises.now start) }
     {
-        let mut n = start;
-        for i in 0..left.len() {
-            let own = Literal::Concept(left[i]);
-            let head = self.premise(i, v, premises[i], own)?;
-            n = put_but(out, n, head.as_slice(), own);
+        for (i, (concept, premise)) in left.iter().zip(premises).enumerate() {
+            let own = Literal::Concept(*concept);
+            let head = self.premise(i, v, *premise, own)?;
+            row.put_all(head.as_slice(), Some(own));
         }
-        Ok(n)
+        Ok(())
     }
 
-    // Puts the right literals, and what each premise has besides its own concept, into the front of `out`.
+    // Puts the right literals, and what each premise has besides its own concept, into the empty row.
     fn hyper_row(
         &self,
         v: u8,
         implied: &ConceptAxiom,
         premises: &[u16],
-        out: &mut [Literal],
-    ) -> Result<usize, Refusal>
-        ensures { RowIn out.new result (hyper_row (contents self.now) v (held implied.now.left) premises.now (held implied.now.right)) }
+        row: &mut Row<'_>,
+    ) -> Result<(), Refusal>
+        ensures { Keeps row.old [] → RowIn row.new result (hyper_row (contents self.now) v (held implied.now.left) premises.now (held implied.now.right)) }
     {
         is_count(premises.len(), implied.left().len())?;
-        let n = put_all(out, 0, implied.right());
-        self.gather(v, implied.left(), premises, out, n)
+        row.put_all(implied.right(), None);
+        self.gather(v, implied.left(), premises, row)
     }
 
     // Whether the step is entered. What it leaves in the scratch is for the caller to clear.
@@ -70,8 +59,9 @@ impl Book {
         self.ready(scratch.len())?;
         self.core_of(v)?;
         let implied = self.concept_axiom(x)?;
-        let n = self.hyper_row(v, &implied, premises, scratch)?;
-        is_claimed(&scratch[0..n], claim)
+        let mut row = Row::new(scratch);
+        self.hyper_row(v, &implied, premises, &mut row)?;
+        is_claimed(row.as_slice(), claim)
     }
 
     // The hyper step: the clause `claim` of v, from axiom x and a premise for each of its left concepts.

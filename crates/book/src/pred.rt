@@ -1,19 +1,19 @@
 // The pred step: from `some e a` in a clause, through its sides, to a clause of a far context, and back.
-ghost use Rattle.std.specs.Prelude.{◌≡◌, ◌≤◌, List, length, replicate};
+ghost use Rattle.std.specs.Prelude.{◌≡◌, ◌≤◌, List, [], length, replicate};
 ghost use Rattle.terms.specs.Shorts.{held};
 ghost use Rattle.terms.specs.declared.literals.Literal.{Literal};
 ghost use Rattle.calculus.specs.Checks.{back_brings, back_test, core_named, far_row, near_row, pred_check, reaches_test, same_core, side_brings, side_head, side_test, walked};
 ghost use Rattle.book.specs.Contents.{clause_of, contents};
 ghost use Rattle.terms.specs.declared.literals.Literal.TheVariants.{Concept};
 ghost use Rattle.calculus.specs.Events.{pred};
-ghost use Rattle.calculus.specs.Fronts.{Capped};
 ghost use Rattle.calculus.specs.Replies.{after, reply};
 ghost use Rattle.calculus.specs.Limits.{side_limit};
-ghost use Rattle.book.specs.Views.{RowIn, seen};
+ghost use Rattle.book.specs.Rows.{Keeps, RowIn};
+ghost use Rattle.book.specs.Views.{seen};
 
 use crate::checks::is_claimed;
 use crate::clauses::Clause;
-use crate::rows::{put_but, put_capped};
+use crate::rows::Row;
 use crate::state::Book;
 use calculus::Answer;
 use forms::Side;
@@ -65,49 +65,30 @@ impl Book {
         }
     }
 
-    // Puts what each side has besides its own literal into the row of the first `start` literals of `out`.
-    fn gather_sides(
-        &self,
-        v: u8,
-        e: Role,
-        sides: &[Side],
-        out: &mut [Literal],
-        start: usize,
-    ) -> Result<usize, Refusal>
-        requires { start ≤ length out.old }
-        ensures { (row : List Literal) → Capped out.old start row → RowIn out.new result (walked (side_test (contents self.now) v e.code) side_brings 0 sides.now row) }
+    // Puts what each side has besides its own literal into the row.
+    fn gather_sides(&self, v: u8, e: Role, sides: &[Side], row: &mut Row<'_>) -> Result<(), Refusal>
+        ensures { (start : List Literal) → Keeps row.old start → RowIn row.new result (walked (side_test (contents self.now) v e.code) side_brings 0 sides.now start) }
     {
-        let mut n = start;
-        for i in 0..sides.len() {
-            let side = sides[i];
-            let head = self.side_head(i + 1, v, e, side)?;
-            n = put_but(out, n, head.as_slice(), side.literal());
+        for (i, side) in sides.iter().enumerate() {
+            let head = self.side_head(i + 1, v, e, *side)?;
+            row.put_all(head.as_slice(), Some(side.literal()));
         }
-        Ok(n)
+        Ok(())
     }
 
-    // Puts the concept that each literal of the far head brings back into the row of the first `start` literals of `out`.
-    fn gather_back(
-        &self,
-        e: Role,
-        far: &[Literal],
-        out: &mut [Literal],
-        start: usize,
-    ) -> Result<usize, Refusal>
-        requires { start ≤ length out.old }
-        ensures { (row : List Literal) → Capped out.old start row → RowIn out.new result (walked (back_test (contents self.now) e.code) back_brings 0 far.now row) }
+    // Puts the concept that each literal of the far head brings back into the row.
+    fn gather_back(&self, e: Role, far: &[Literal], row: &mut Row<'_>) -> Result<(), Refusal>
+        ensures { (start : List Literal) → Keeps row.old start → RowIn row.new result (walked (back_test (contents self.now) e.code) back_brings 0 far.now start) }
     {
-        let mut n = start;
-        for i in 0..far.len() {
-            let concept = self.brought_back(e, i, far[i])?;
-            n = put_capped(out, n, Literal::Concept(concept));
+        for (i, literal) in far.iter().enumerate() {
+            row.put(Literal::Concept(self.brought_back(e, i, *literal)?));
         }
-        Ok(n)
+        Ok(())
     }
 }
 
 impl Book {
-    // Puts what the clauses of v give into the front of `out`.
+    // Puts what the clauses of v give into the empty row.
     fn near_row(
         &self,
         v: u8,
@@ -115,29 +96,27 @@ impl Book {
         e: Role,
         a: u8,
         sides: &[Side],
-        out: &mut [Literal],
-    ) -> Result<usize, Refusal>
-        ensures { RowIn out.new result (near_row (contents self.now) v p e a sides.now) }
+        row: &mut Row<'_>,
+    ) -> Result<(), Refusal>
+        ensures { Keeps row.old [] → RowIn row.new result (near_row (contents self.now) v p e a sides.now) }
     {
         let own = Literal::Exists(e, a);
         let head = self.premise(0, v, p, own)?;
-        let n = put_but(out, 0, head.as_slice(), own);
-        self.gather_sides(v, e, sides, out, n)
+        row.put_all(head.as_slice(), Some(own));
+        self.gather_sides(v, e, sides, row)
     }
 
-    // Puts what the far clause brings back into the row of the first `start` literals of `out`.
+    // Puts what the far clause brings back into the row.
     fn far_row(
         &self,
         e: Role,
         a: u8,
         sides: &[Side],
         far: &Clause,
-        out: &mut [Literal],
-        start: usize,
-    ) -> Result<usize, Refusal>
-        requires few { length sides.now ≤ side_limit }
-        requires fits { start ≤ length out.old }
-        ensures { (row : List Literal) → Capped out.old start row → RowIn out.new result (far_row (contents self.now) e.code a sides.now (clause_of far.now) row) }
+        row: &mut Row<'_>,
+    ) -> Result<(), Refusal>
+        requires { length sides.now ≤ side_limit }
+        ensures { (start : List Literal) → Keeps row.old start → RowIn row.new result (far_row (contents self.now) e.code a sides.now (clause_of far.now) start) }
     {
         let u = far.context;
         let concepts = self.core_or(
@@ -148,7 +127,7 @@ impl Book {
         )?;
         let names = names_of_core(a, sides);
         is_core(u, concepts.as_slice(), names.as_slice())?;
-        self.gather_back(e, far.head.as_slice(), out, start)
+        self.gather_back(e, far.head.as_slice(), row)
     }
 
     // Whether the step is entered. What it leaves in the scratch is for the caller to clear.
@@ -168,10 +147,11 @@ impl Book {
         let sides = sides.as_slice();
         self.ready(scratch.len())?;
         self.core_of(v)?;
-        let near = self.near_row(v, p, e, a, sides, scratch)?;
+        let mut row = Row::new(scratch);
+        self.near_row(v, p, e, a, sides, &mut row)?;
         let far = self.clause_at(sides.len() + 1, q)?;
-        let n = self.far_row(e, a, sides, &far, scratch, near)?;
-        is_claimed(&scratch[0..n], claim)
+        self.far_row(e, a, sides, &far, &mut row)?;
+        is_claimed(row.as_slice(), claim)
     }
 
     // The pred step: the clause `claim` of v, from `some e a` in clause p, the sides, and clause q of the far context.

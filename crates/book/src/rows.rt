@@ -1,64 +1,79 @@
-// Rising lists kept in the front of lent memory, as far as it has room.
-ghost use Rattle.std.specs.Prelude.{◌≡◌, ◌<◌, ◌≤◌, List, length, take};
-ghost use Rattle.terms.specs.Lists.{removal};
-ghost use Rattle.calculus.specs.Fronts.{Capped, Front, first_apart, placed, placed_all};
+// A rising row of literals, kept in the front of lent memory as far as it has room. And where two lists first differ.
+ghost use Rattle.std.specs.Prelude.{◌≡◌, ◌<◌, ◌≤◌, List, [], ◌∷◌, ◌++◌, length, MatchOption};
+ghost use Rattle.terms.specs.declared.literals.Literal.{Literal};
+ghost use Rattle.terms.specs.Literals.{literal_precedes};
+ghost use Rattle.forms.specs.Limits.{head_limit};
+ghost use Rattle.calculus.specs.Fronts.{first_apart, placed, placed_all};
 
-use terms::Ordered;
+use terms::{Literal, Ordered};
 
-// Puts x into the row of the first n items of `out`, unless it is there.
-fn put<T: Ordered>(out: &mut [T], n: usize, x: T) -> usize
-    requires { n < length out.old }
-    ensures { Front out.new result (placed T.precedes x (take n out.old)) }
+// A row of literals in lent memory that is longer than any head: the first `len` literals are those that the row keeps.
+#[derive(Drop)]
+pub(crate) struct Row<'a> {
+    memory: &'a mut [Literal],
+    len: usize,
+    ghost fits: { len ≤ length memory.now },
+    ghost long: { head_limit < length memory.now },
+}
+
+impl<'a> Row<'a> {
+    ghost use Rattle.book.specs.Rows.{Keeps, kept, spared};
+
+    // The empty row over this memory.
+    pub(crate) fn new(memory: &'a mut [Literal]) -> Row<'a>
+        requires { head_limit < length memory.old }
+        ensures { Keeps result [] }
+    {
+        Row { memory, len: 0 }
+    }
+
+    // The literals that the row keeps.
+    pub(crate) fn as_slice(&self) -> &[Literal]
+        ensures { result.now ≡ kept self.now }
+    {
+        &self.memory[..self.len]
+    }
+
+    // Puts x at its place in the row, unless it is there. The last literal is dropped where no room is left for it.
+    pub(crate) fn put(&mut self, x: Literal)
+        ensures { (row : List Literal) → Keeps self.old row → Keeps self.new (placed literal_precedes x row) }
+    {
+        let len = self.len;
+        if let Some(last) = push_in(&mut self.memory[..len], x) {
+            if len < self.memory.len() {
+                self.memory[len] = last;
+                self.len = len + 1;
+            }
+        }
+    }
+
+    // Puts each of the literals at its place in the row, but for the one that is to go, if one is.
+    pub(crate) fn put_all(&mut self, literals: &[Literal], gone: Option<Literal>)
+        ensures { (row : List Literal) → Keeps self.old row → Keeps self.new (placed_all literal_precedes (spared gone literals.now) row) }
+    {
+        for literal in literals {
+            if !gone.is_some_and(|own| own.same(literal)) {
+                self.put(*literal);
+            }
+        }
+    }
+}
+
+// Puts x at its place in the row, unless it is there, and answers the last item, which has no place left.
+fn push_in<T: Ordered>(row: &mut [T], x: T) -> Option<T>
+    ensures { MatchOption result (row.new ≡ placed T.precedes x row.old) (λ last. row.new ++ last ∷ [] ≡ placed T.precedes x row.old) }
 {
     let mut carry = x;
-    for i in 0..n {
-        let y = out[i];
+    for i in 0..row.len() {
+        let y = row[i];
         if carry.before(&y) {
-            out[i] = carry;
+            row[i] = carry;
             carry = y;
         } else if !y.before(&carry) {
-            return n;
+            return None;
         }
     }
-    out[n] = carry;
-    n + 1
-}
-
-// Puts x into the row, or leaves the row where it fills `out`.
-pub(crate) fn put_capped<T: Ordered>(out: &mut [T], n: usize, x: T) -> usize
-    requires { n ≤ length out.old }
-    ensures fits { result ≤ length out.new }
-    ensures row { (row : List T) → Capped out.old n row → Capped out.new result (placed T.precedes x row) }
-{
-    if n < out.len() { put(out, n, x) } else { n }
-}
-
-// Puts every item of xs but `gone` into the row, as far as `out` has room.
-pub(crate) fn put_but<T: Ordered>(out: &mut [T], n: usize, xs: &[T], gone: T) -> usize
-    requires { n ≤ length out.old }
-    ensures fits { result ≤ length out.new }
-    ensures row { (row : List T) → Capped out.old n row → Capped out.new result (placed_all T.precedes (removal T.precedes gone xs.now) row) }
-{
-    let mut end = n;
-    for x in xs {
-        if !gone.same(x) {
-            end = put_capped(out, end, *x);
-        }
-    }
-    end
-}
-
-// Puts every item of xs into the row, as far as `out` has room.
-pub(crate) fn put_all<T: Ordered>(out: &mut [T], n: usize, xs: &[T]) -> usize
-    requires { n ≤ length out.old }
-    ensures fits { result ≤ length out.new }
-    ensures row { (row : List T) → Capped out.old n row → Capped out.new result (placed_all T.precedes xs.now row) }
-{
-    let mut end = n;
-    for x in xs {
-        end = put_capped(out, end, *x);
-    }
-    end
+    Some(carry)
 }
 
 // Where two lists first differ, or the length of the shorter, or nothing where they are equal.

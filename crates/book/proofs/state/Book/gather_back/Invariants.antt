@@ -1,4 +1,4 @@
-use Rattle.std.proofs.Common.{◌≤◌, length, drop}
+use Rattle.std.proofs.Common.{drop}
 use Rattle.calculus.specs.Checks.{back_brings, back_test}
 use Rattle.book.specs.Contents.{contents}
 use Rattle.book.proofs.Gathers.{Gathering}
@@ -6,5 +6,4 @@ use Rattle.book.proofs.state.Book.gather_back.Given as goal
 
 abbrev pub invariant-loop-i : goal.invariant-loop-i
 invariant-loop-i l =
-    (l.n ≤ length l.out)
-    × Gathering (back_test (contents l.self) l.e.code) back_brings l.far l.initial.out l.start l.out l.n l.i (drop l.i l.far)
+    Gathering (back_test (contents l.self) l.e.code) back_brings l.far l.initial.row l.row l.i (drop l.i l.far)

@@ -1,4 +1,4 @@
-use Rattle.std.proofs.Common.{◌≤◌, length, drop}
+use Rattle.std.proofs.Common.{drop}
 use Rattle.calculus.specs.Checks.{side_brings, side_test}
 use Rattle.book.specs.Contents.{contents}
 use Rattle.book.proofs.Gathers.{Gathering}
@@ -6,5 +6,4 @@ use Rattle.book.proofs.state.Book.gather_sides.Given as goal
 
 abbrev pub invariant-loop-i : goal.invariant-loop-i
 invariant-loop-i l =
-    (l.n ≤ length l.out)
-    × Gathering (side_test (contents l.self) l.v l.e.code) side_brings l.sides l.initial.out l.start l.out l.n l.i (drop l.i l.sides)
+    Gathering (side_test (contents l.self) l.v l.e.code) side_brings l.sides l.initial.row l.row l.i (drop l.i l.sides)
