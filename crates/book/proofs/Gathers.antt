@@ -1,5 +1,5 @@
 -- A walk whose row is kept in room that may be too small for it: the turns of its loop. Assumes nothing.
-use Rattle.std.proofs.Common.{◌≡◌, ℕ, ◌+◌, List, [], ◌∷◌, Ok, Err, Result, refl}
+use Rattle.std.proofs.Common.{◌≡◌, ℕ, ◌+◌, List, [], ◌∷◌, Ok, Err, Result}
 use Rattle.terms.specs.Literals.{literal_precedes}
 use Rattle.terms.specs.declared.literals.Literal.{Literal}
 use Rattle.terms.specs.declared.refusals.Refusal.{Refusal}
@@ -13,9 +13,6 @@ module _ {X Y : Type 0} (test : ℕ → X → Result Y Refusal) (brings : X → 
   -- the walk over what is left, from the row that is kept, comes to what the walk over all comes to from the row that was kept first
   abbrev pub Gathering : (now : Row) (i : ℕ) (us : List X) → Type 0
   Gathering now i us = (start : List Literal) → Keeps before start → (row : List Literal) × Keeps now row × (walked test brings i us row ≡ walked test brings 0 all start)
-
-  pub gather_starts : Gathering before 0 all
-  gather_starts start k = (start, k, refl)
 
   module _ (now : Row) (i : ℕ) (us : List X) (way : Gathering now i us) where
     module _ (x : X) (rest : List X) (here : us ≡ x ∷ rest) where

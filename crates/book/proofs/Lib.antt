@@ -1,8 +1,8 @@
+pub mod Apart
 pub mod Asked
 pub mod Caps
 pub mod Gathers
 pub mod Included
-pub mod Listed
 pub mod Offered
 pub mod Pairs
 pub mod Places

@@ -1,9 +1,8 @@
 -- One item put into a row, as the loop does it. Assumes nothing.
-use Rattle.std.proofs.Common.{◌≡◌, ℕ, ◌+◌, ◌<◌, ◌≤◌, Bool, true, false, List, [], ◌∷◌, ◌++◌, length, get_or, take, drop, set, Some, None, Option, sym, refl, ap, ◌∙◌, arith}
+use Rattle.std.proofs.Common.{◌≡◌, ℕ, ◌+◌, ◌<◌, ◌≤◌, Bool, true, false, List, [], ◌∷◌, ◌++◌, length, get_or, take, drop, set, sym, ap, ◌∙◌, arith}
 use Rattle.std.proofs.lemmas.List.{append_assoc, drop_all, drop-set-lt, take_all, take-append-drop, take_more, take_more_set}
 use Rattle.std.proofs.lemmas.Bool.{cond-true, cond-false}
-use Rattle.terms.specs.Lists.{alike}
-use Rattle.calculus.specs.Fronts.{first_apart, placed}
+use Rattle.calculus.specs.Fronts.{placed}
 use Rattle.terms.proofs.Turns.{drop_read}
 
 module _ {X : Type 0} (lt : X → X → Bool) where
@@ -31,20 +30,3 @@ module _ {X : Type 0} (lt : X → X → Bool) where
   pub ended : (row : List X) (i : ℕ) (carry : X) (whole : List X) → length row ≤ i → take i row ++ placed lt carry (drop i row) ≡ whole → row ++ carry ∷ [] ≡ whole
   ended row i carry whole end so =
       ap (λ l. l ++ carry ∷ []) (sym (take_all i row end)) ∙ ap (λ l. take i row ++ placed lt carry l) (sym (drop_all i row end)) ∙ so
-
-  pub apart_same : (i : ℕ) (x y : X) (us vs us' vs' : List X) (o : Option ℕ) → us ≡ x ∷ us' → vs ≡ y ∷ vs' → first_apart lt i us vs ≡ o → alike lt x y ≡ true → first_apart lt (i + 1) us' vs' ≡ o
-  apart_same i x y us vs us' vs' o d e so h = sym (cond-true _ _ _ h) ∙ sym (ap (λ l. first_apart lt i l vs) d ∙ ap (first_apart lt i (x ∷ us')) e) ∙ so
-
-  pub apart_here : (i : ℕ) (x y : X) (us vs us' vs' : List X) (o : Option ℕ) → us ≡ x ∷ us' → vs ≡ y ∷ vs' → first_apart lt i us vs ≡ o → alike lt x y ≡ false → Some i ≡ o
-  apart_here i x y us vs us' vs' o d e so h = sym (cond-false _ _ _ h) ∙ sym (ap (λ l. first_apart lt i l vs) d ∙ ap (first_apart lt i (x ∷ us')) e) ∙ so
-
-  pub apart_second : (i : ℕ) (us vs : List X) (o : Option ℕ) → 0 < length us → vs ≡ [] → first_apart lt i us vs ≡ o → Some i ≡ o
-  apart_second i [] vs o h e so = absurd (omega arith)
-  apart_second i (u ∷ us) vs o h e so = ap (first_apart lt i (u ∷ us)) (sym e) ∙ so
-
-  pub apart_first : (i : ℕ) (us vs : List X) (o : Option ℕ) → us ≡ [] → 0 < length vs → first_apart lt i us vs ≡ o → Some i ≡ o
-  apart_first i us [] o e h so = absurd (omega arith)
-  apart_first i us (v ∷ vs) o e h so = ap (λ l. first_apart lt i l (v ∷ vs)) (sym e) ∙ so
-
-  pub apart_none : (i : ℕ) (us vs : List X) (o : Option ℕ) → us ≡ [] → vs ≡ [] → first_apart lt i us vs ≡ o → None ≡ o
-  apart_none i us vs o d e so = ap (first_apart lt i []) (sym e) ∙ ap (λ l. first_apart lt i l vs) (sym d) ∙ so

@@ -1,28 +1,47 @@
 -- The call that a form makes on a book, and what the memory lent to it then holds. Assumes nothing.
-use Rattle.std.specs.Prelude.{ℕ, List, length, replicate}
+use Rattle.std.specs.Prelude.{ℕ, List, map, length, replicate}
 use Rattle.terms.specs.Shorts.{held}
 use Rattle.terms.specs.declared.literals.Literal.{Literal}
 use Rattle.terms.specs.declared.literals.Literal.TheVariants.{Concept}
 use Rattle.models.specs.Meanings.{Meaning}
 use Rattle.forms.specs.declared.formed.Form.{Form}
-use Rattle.forms.specs.declared.kinds.Kind.{Kind}
-use Rattle.forms.specs.declared.kinds.Kind.TheVariants.{Ask, Axiom, Close, Context, Core, Hyper, Pred, Refute, Under}
+use Rattle.forms.specs.declared.formed.Form.TheVariants.{Ask, Axiom, Close, Context, Core, Hyper, Pred, Refute, Under}
+use Rattle.forms.specs.declared.steps.CoreStep.{CoreStep}
+use Rattle.forms.specs.declared.steps.HyperStep.{HyperStep}
+use Rattle.forms.specs.declared.steps.PredStep.{PredStep}
+use Rattle.forms.specs.declared.steps.Subsumption.{Subsumption}
 use Rattle.calculus.specs.Events.{Event, ask, close, core, enter_axiom, enter_inclusion, hyper, open_context, pred, refute}
 
--- the call of a form of this kind, with scratch of this length and a sample that means m
-abbrev pub call_as : Kind → Form → ℕ → Meaning → Event
-call_as Axiom f scratch m = enter_axiom (held f.implied.left) (held f.implied.right)
-call_as Under f scratch m = enter_inclusion f.role f.upper
-call_as Close f scratch m = close
-call_as Context f scratch m = open_context (held f.concepts.list)
-call_as Core f scratch m = core f.context f.concept scratch
-call_as Hyper f scratch m = hyper f.context f.number (held f.premises.list) (held f.claim.list) scratch
-call_as Pred f scratch m = pred f.context f.first f.role f.concept (held f.sides.list) f.far (held f.claim.list) scratch
-call_as Ask f scratch m = ask (held f.concepts.list) (held f.others.list)
-call_as Refute f scratch m = refute (held f.concepts.list) (held f.others.list) m
+-- the calls of steps, with scratch of this length, and of questions, with a sample that means m
+abbrev pub core_call : CoreStep → ℕ → Event
+core_call s scratch = core s.context.number s.concept scratch
 
+abbrev pub premise_numbers : HyperStep → List ℕ
+premise_numbers s = map (λ n. n.number) (held s.premises.list)
+
+abbrev pub hyper_call : HyperStep → ℕ → Event
+hyper_call s scratch = hyper s.context.number s.axiom.number (premise_numbers s) (held s.claim.list) scratch
+
+abbrev pub pred_call : PredStep → ℕ → Event
+pred_call s scratch = pred s.context.number s.first.number s.role s.concept (held s.sides.list) s.far.number (held s.claim.list) scratch
+
+abbrev pub ask_call : Subsumption → Event
+ask_call s = ask (held s.left.list) (held s.right.list)
+
+abbrev pub refute_call : Subsumption → Meaning → Event
+refute_call s m = refute (held s.left.list) (held s.right.list) m
+
+-- the call of a form, with scratch of this length and a sample that means m
 abbrev pub call_of : Form → ℕ → Meaning → Event
-call_of f scratch m = call_as f.kind f scratch m
+call_of (Axiom a) scratch m = enter_axiom (held a.left) (held a.right)
+call_of (Under E S) scratch m = enter_inclusion E S
+call_of Close scratch m = close
+call_of (Context K) scratch m = open_context (held K.list)
+call_of (Core s) scratch m = core_call s scratch
+call_of (Hyper s) scratch m = hyper_call s scratch
+call_of (Pred s) scratch m = pred_call s scratch
+call_of (Ask s) scratch m = ask_call s
+call_of (Refute s) scratch m = refute_call s m
 
 -- each literal is concept 0
 abbrev pub cleared : List Literal → List Literal

@@ -2,14 +2,16 @@
 ghost use Rattle.std.specs.Prelude.{◌≡◌, map};
 ghost use Rattle.terms.specs.Lists.{contained, member};
 ghost use Rattle.terms.specs.Literals.{literal_precedes};
+ghost use Rattle.terms.specs.Shorts.{held};
 ghost use Rattle.terms.specs.declared.literals.Literal.TheVariants.{Concept};
 ghost use Rattle.book.specs.Contents.{clause_of, contents};
-ghost use Rattle.calculus.specs.Events.{ask, refute};
+ghost use Rattle.book.specs.Offers.{ask_call, refute_call};
 ghost use Rattle.calculus.specs.Replies.{covering, lowest_clause, reply};
 
-use crate::clauses::{Clause, Phase};
+use crate::clauses::Clause;
 use crate::state::Book;
 use calculus::Answer;
+use forms::Subsumption;
 use models::Sample;
 use models::judge::{judge, lowest_contradiction};
 use terms::lists::{has, is_within};
@@ -21,8 +23,7 @@ fn is_concept_of(literal: Literal, concepts: &[u8]) -> bool
 {
     match literal {
         Literal::Concept(a) => has(concepts, &a),
-        Literal::Exists(_, _) => false,
-        Literal::Forall(_, _) => false,
+        Literal::Exists(_, _) | Literal::Forall(_, _) => false,
     }
 }
 
@@ -30,71 +31,55 @@ fn is_concept_of(literal: Literal, concepts: &[u8]) -> bool
 fn are_concepts_of(literals: &[Literal], concepts: &[u8]) -> bool
     ensures { result ≡ contained literal_precedes literals.now (map Concept concepts.now) }
 {
-    for literal in literals {
-        if !is_concept_of(*literal, concepts) {
-            return false;
-        }
-    }
-    true
+    literals
+        .iter()
+        .all(|literal| is_concept_of(*literal, concepts))
 }
 
 impl Book {
-    // Whether the clause strengthens the subsumption of k by m.
-    fn covers(&self, clause: &Clause, k: &[u8], m: &[u8]) -> bool
-        ensures { result ≡ covering (contents self.now) k.now m.now (clause_of clause.now) }
+    // Whether the clause strengthens the subsumption.
+    fn covers(&self, clause: &Clause, asked: &Subsumption) -> bool
+        ensures { result ≡ covering (contents self.now) (held asked.now.left.list) (held asked.now.right.list) (clause_of clause.now) }
     {
-        match self.contexts.get(clause.context as usize) {
-            Some(concepts) => {
-                is_within(concepts.as_slice(), k) && are_concepts_of(clause.head.as_slice(), m)
-            }
-            None => false,
-        }
+        let Some(concepts) = self.contexts.get(clause.context as usize) else {
+            return false;
+        };
+        is_within(concepts.as_slice(), asked.left.as_slice())
+            && are_concepts_of(clause.head.as_slice(), asked.right.as_slice())
     }
 
-    // The number of the lowest clause that strengthens the subsumption of k by m.
-    fn lowest_clause(&self, k: &[u8], m: &[u8]) -> Option<u16>
-        ensures { result ≡ lowest_clause (contents self.now) k.now m.now 0 (contents self.now).clauses }
+    // The number of the lowest clause that strengthens the subsumption.
+    fn lowest_clause(&self, asked: &Subsumption) -> Option<u16>
+        ensures { result ≡ lowest_clause (contents self.now) (held asked.now.left.list) (held asked.now.right.list) 0 (contents self.now).clauses }
     {
         let clauses = self.clauses.as_slice();
-        for i in 0..clauses.len() {
-            if self.covers(&clauses[i], k, m) {
-                return Some(i as u16);
-            }
-        }
-        None
+        let n = clauses
+            .iter()
+            .position(|clause| self.covers(clause, asked))?;
+        Some(n as u16)
     }
 
-    // Which clause of a closed book shows the subsumption of k by m, if any.
-    pub(crate) fn ask(&self, k: &[u8], m: &[u8]) -> Result<Answer, Refusal>
-        ensures { result ≡ reply (contents self.now) (ask k.now m.now) }
+    // Which clause of a closed book shows the subsumption, if any.
+    pub(crate) fn ask(&self, asked: &Subsumption) -> Result<Answer, Refusal>
+        ensures { result ≡ reply (contents self.now) (ask_call asked.now) }
     {
-        match self.phase {
-            Phase::Open => Err(Refusal::BookOpen),
-            Phase::Closed => match self.lowest_clause(k, m) {
-                Some(n) => Ok(Answer::Shown(n)),
-                None => Ok(Answer::Unshown),
-            },
-        }
+        self.be_closed()?;
+        let lowest = self.lowest_clause(asked);
+        Ok(lowest.map_or(Answer::Unshown, |n| Answer::Shown(n)))
     }
 
-    // Which element of the sample refutes the subsumption of k by m in a closed book.
+    // Which element of the sample refutes the subsumption in a closed book.
     pub(crate) fn refute<S: Sample>(
         &self,
-        k: &[u8],
-        m: &[u8],
+        asked: &Subsumption,
         sample: &S,
     ) -> Result<Answer, Refusal>
-        ensures { result ≡ reply (contents self.now) (refute k.now m.now (S.meaning sample.now)) }
+        ensures { result ≡ reply (contents self.now) (refute_call asked.now (S.meaning sample.now)) }
     {
-        match self.phase {
-            Phase::Open => Err(Refusal::BookOpen),
-            Phase::Closed => {
-                judge(self.axioms.as_slice(), sample)?;
-                match lowest_contradiction(k, m, sample) {
-                    Some(x) => Ok(Answer::Refuted(x)),
-                    None => Err(Refusal::NoneContradicts),
-                }
-            }
-        }
+        self.be_closed()?;
+        judge(self.axioms.as_slice(), sample)?;
+        lowest_contradiction(asked.left.as_slice(), asked.right.as_slice(), sample)
+            .map(|x| Answer::Refuted(x))
+            .ok_or(Refusal::NoneContradicts)
     }
 }

@@ -1,29 +1,20 @@
 // A new book, what an open one takes, its closing, and the contexts of a closed one.
-ghost use Rattle.std.specs.Prelude.{◌≡◌, []};
+ghost use Rattle.std.specs.Prelude.{◌≡◌, not, []};
 ghost use Rattle.terms.specs.Shorts.{held};
-ghost use Rattle.models.specs.Charts.{sentence_of};
-ghost use Rattle.models.specs.Semantics.{under};
+ghost use Rattle.terms.specs.declared.refusals.Refusal.TheVariants.{BookClosed, BookOpen};
 ghost use Rattle.book.specs.Contents.{contents};
+ghost use Rattle.calculus.specs.Checks.{passes};
 ghost use Rattle.calculus.specs.Events.{close, empty, enter_axiom, enter_inclusion, open_context};
 ghost use Rattle.calculus.specs.Law.{Had};
 ghost use Rattle.calculus.specs.Replies.{after, reply};
 
 use crate::clauses::{Clause, Phase};
+use crate::entry::enter;
 use crate::state::Book;
 use calculus::Answer;
-use forms::limits::{AXIOM_LIMIT, CONTEXT_LIMIT, LIST_LIMIT};
+use forms::Concepts;
 use models::{Axiom, ConceptAxiom};
 use terms::{Literal, Reach, Refusal, Role, Short};
-
-// An axiom for places that hold nothing.
-fn filler() -> Axiom
-    ensures { sentence_of result ≡ under 0 0 }
-{
-    match Role::new(0) {
-        Ok(role) => Axiom::Under(role, role),
-        Err(_) => unreachable(),
-    }
-}
 
 impl Book {
     /// A book that was asked nothing: open and empty.
@@ -31,7 +22,7 @@ impl Book {
         ensures value { contents result ≡ empty }
         ensures past { Had [] (contents result) }
     {
-        let axioms = Short::new(filler());
+        let axioms = Short::new(Axiom::Under(Role::default(), Role::default()));
         let contexts = Short::new(Short::new(0));
         let clauses = Short::new(Clause {
             context: 0,
@@ -46,22 +37,33 @@ impl Book {
         }
     }
 
+    // Refuses what only an open book takes.
+    pub(crate) fn be_open(&self) -> Result<(), Refusal>
+        ensures { result ≡ passes (not (contents self.now).closed) BookClosed }
+    {
+        match self.phase {
+            Phase::Open => Ok(()),
+            Phase::Closed => Err(Refusal::BookClosed),
+        }
+    }
+
+    // Refuses what only a closed book takes.
+    pub(crate) fn be_closed(&self) -> Result<(), Refusal>
+        ensures { result ≡ passes (contents self.now).closed BookOpen }
+    {
+        match self.phase {
+            Phase::Open => Err(Refusal::BookOpen),
+            Phase::Closed => Ok(()),
+        }
+    }
+
     // Enters a concept axiom in an open book.
     pub(crate) fn enter_axiom(&mut self, implied: ConceptAxiom) -> Result<Answer, Refusal>
         ensures answer { result ≡ reply (contents self.old) (enter_axiom (held implied.left) (held implied.right)) }
         ensures change { contents self.new ≡ after (contents self.old) (enter_axiom (held implied.left) (held implied.right)) }
     {
-        match self.phase {
-            Phase::Closed => Err(Refusal::BookClosed),
-            Phase::Open => {
-                let number = self.axioms.len();
-                if self.axioms.push(Axiom::Implies(implied)) {
-                    Ok(Answer::Entered(number as u16))
-                } else {
-                    Err(Refusal::NoPlaceFree { limit: AXIOM_LIMIT })
-                }
-            }
-        }
+        self.be_open()?;
+        enter(&mut self.axioms, Axiom::Implies(implied))
     }
 
     // Enters the inclusion of e under s in an open book.
@@ -69,18 +71,10 @@ impl Book {
         ensures answer { result ≡ reply (contents self.old) (enter_inclusion e s) }
         ensures change { contents self.new ≡ after (contents self.old) (enter_inclusion e s) }
     {
-        match self.phase {
-            Phase::Closed => Err(Refusal::BookClosed),
-            Phase::Open => {
-                let number = self.axioms.len();
-                if self.axioms.push(Axiom::Under(e, s)) {
-                    self.reach.include(e, s);
-                    Ok(Answer::Entered(number as u16))
-                } else {
-                    Err(Refusal::NoPlaceFree { limit: AXIOM_LIMIT })
-                }
-            }
-        }
+        self.be_open()?;
+        let entered = enter(&mut self.axioms, Axiom::Under(e, s))?;
+        self.reach.include(e, s);
+        Ok(entered)
     }
 
     // Closes an open book.
@@ -88,35 +82,17 @@ impl Book {
         ensures answer { result ≡ reply (contents self.old) close }
         ensures change { contents self.new ≡ after (contents self.old) close }
     {
-        match self.phase {
-            Phase::Closed => Err(Refusal::BookClosed),
-            Phase::Open => {
-                self.phase = Phase::Closed;
-                Ok(Answer::Closed)
-            }
-        }
+        self.be_open()?;
+        self.phase = Phase::Closed;
+        Ok(Answer::Closed)
     }
 
     // Opens a context of a closed book.
-    pub(crate) fn open_context(
-        &mut self,
-        concepts: &Short<u8, LIST_LIMIT>,
-    ) -> Result<Answer, Refusal>
-        ensures answer { result ≡ reply (contents self.old) (open_context (held concepts.now)) }
-        ensures change { contents self.new ≡ after (contents self.old) (open_context (held concepts.now)) }
+    pub(crate) fn open_context(&mut self, concepts: &Concepts) -> Result<Answer, Refusal>
+        ensures answer { result ≡ reply (contents self.old) (open_context (held concepts.now.list)) }
+        ensures change { contents self.new ≡ after (contents self.old) (open_context (held concepts.now.list)) }
     {
-        match self.phase {
-            Phase::Open => Err(Refusal::BookOpen),
-            Phase::Closed => {
-                let number = self.contexts.len();
-                if self.contexts.push(*concepts) {
-                    Ok(Answer::Entered(number as u16))
-                } else {
-                    Err(Refusal::NoPlaceFree {
-                        limit: CONTEXT_LIMIT,
-                    })
-                }
-            }
-        }
+        self.be_closed()?;
+        enter(&mut self.contexts, *concepts.list())
     }
 }

@@ -1,13 +1,13 @@
 // What the steps check, one thing to a function, in the order of the refusals.
-ghost use Rattle.std.specs.Prelude.{◌≡◌, None};
+ghost use Rattle.std.specs.Prelude.{◌≡◌};
+ghost use Rattle.std.specs.List.{slice_get};
 ghost use Rattle.terms.specs.Shorts.{held};
+ghost use Rattle.terms.specs.declared.refusals.Refusal.TheVariants.{ClauseNotEntered, NoConceptAxiom};
 ghost use Rattle.calculus.specs.Checks.{claimed, core_of, counted, premise_head, ready, required, sides_of};
 ghost use Rattle.book.specs.Contents.{clause_of, contents};
 ghost use Rattle.book.specs.Views.{both_sides, seen};
-ghost use Rattle.std.specs.List.{slice_get};
-ghost use Rattle.terms.specs.declared.refusals.Refusal.TheVariants.{ClauseNotEntered, NoConceptAxiom};
 
-use crate::clauses::{Clause, Phase};
+use crate::clauses::Clause;
 use crate::rows::first_difference;
 use crate::state::Book;
 use forms::limits::{CLAUSE_LIMIT, HEAD_LIMIT, LIST_LIMIT};
@@ -15,96 +15,84 @@ use models::{Axiom, ConceptAxiom};
 use terms::lists::has;
 use terms::{Literal, Refusal, Short};
 
-// The literals of scratch that a step is to be lent.
-const SCRATCH_NEEDED: usize = 111;
+/// The literals of scratch that a step is to be lent.
+pub const SCRATCH_NEEDED: usize = 111;
 
 impl Book {
     // Whether a step can be looked at: the book is closed, the scratch is long enough, and a place for a clause is free.
     pub(crate) fn ready(&self, scratch: usize) -> Result<(), Refusal>
         ensures { result ≡ ready (contents self.now) scratch }
     {
-        match self.phase {
-            Phase::Open => Err(Refusal::BookOpen),
-            Phase::Closed => {
-                let used = self.clauses.len();
-                if scratch < SCRATCH_NEEDED {
-                    Err(Refusal::MemoryTooShort {
-                        needed: SCRATCH_NEEDED,
-                    })
-                } else if used < CLAUSE_LIMIT {
-                    Ok(())
-                } else {
-                    Err(Refusal::NoPlaceFree {
-                        limit: CLAUSE_LIMIT,
-                    })
-                }
-            }
+        self.be_closed()?;
+        if scratch < SCRATCH_NEEDED {
+            return Err(Refusal::MemoryTooShort {
+                needed: SCRATCH_NEEDED,
+            });
+        }
+        let used = self.clauses.len();
+        if used < CLAUSE_LIMIT {
+            Ok(())
+        } else {
+            Err(Refusal::NoPlaceFree {
+                limit: CLAUSE_LIMIT,
+            })
         }
     }
 
     // The core of the context v, or this refusal where v was not opened.
-    pub(crate) fn core_or(&self, v: u8, missing: Refusal) -> Result<Short<u8, LIST_LIMIT>, Refusal>
+    pub(crate) fn core_or(
+        &self,
+        v: usize,
+        missing: Refusal,
+    ) -> Result<Short<u8, LIST_LIMIT>, Refusal>
         ensures { seen held result ≡ required missing (slice_get (contents self.now).contexts v) }
     {
-        match self.contexts.get(v as usize) {
-            Some(concepts) => Ok(concepts),
-            None => Err(missing),
-        }
+        self.contexts.get(v).ok_or(missing)
     }
 
     // The core of the context v.
-    pub(crate) fn core_of(&self, v: u8) -> Result<Short<u8, LIST_LIMIT>, Refusal>
+    pub(crate) fn core_of(&self, v: usize) -> Result<Short<u8, LIST_LIMIT>, Refusal>
         ensures { seen held result ≡ core_of (contents self.now) v }
     {
-        self.core_or(
-            v,
-            Refusal::ContextNotOpened {
-                context: v as usize,
-            },
-        )
+        self.core_or(v, Refusal::ContextNotOpened { context: v })
     }
 
     // Axiom number x, which is to be a concept axiom.
-    pub(crate) fn concept_axiom(&self, x: u16) -> Result<ConceptAxiom, Refusal>
+    pub(crate) fn concept_axiom(&self, x: usize) -> Result<ConceptAxiom, Refusal>
         ensures { seen both_sides result ≡ sides_of (NoConceptAxiom x) (slice_get (contents self.now).axioms x) }
     {
-        let Some(found) = self.axioms.get(x as usize) else {
-            return Err(Refusal::NoConceptAxiom { axiom: x as usize });
-        };
-        match found {
-            Axiom::Implies(axiom) => Ok(axiom),
-            Axiom::Under(_, _) => Err(Refusal::NoConceptAxiom { axiom: x as usize }),
+        match self.axioms.get(x) {
+            Some(Axiom::Implies(axiom)) => Ok(axiom),
+            _ => Err(Refusal::NoConceptAxiom { axiom: x }),
         }
     }
 
     // Clause number n, which is premise i.
-    pub(crate) fn clause_at(&self, i: usize, n: u16) -> Result<Clause, Refusal>
+    pub(crate) fn clause_at(&self, i: usize, n: usize) -> Result<Clause, Refusal>
         ensures { seen clause_of result ≡ required (ClauseNotEntered i n) (slice_get (contents self.now).clauses n) }
     {
-        match self.clauses.get(n as usize) {
-            Some(clause) => Ok(clause),
-            None => Err(Refusal::ClauseNotEntered {
-                premise: i,
-                clause: n as usize,
-            }),
-        }
+        self.clauses.get(n).ok_or(Refusal::ClauseNotEntered {
+            premise: i,
+            clause: n,
+        })
     }
 
     // The head of premise i, which is to be a clause of v that has `own`.
     pub(crate) fn premise(
         &self,
         i: usize,
-        v: u8,
-        n: u16,
+        v: usize,
+        n: usize,
         own: Literal,
     ) -> Result<Short<Literal, HEAD_LIMIT>, Refusal>
         ensures { seen held result ≡ premise_head (contents self.now).clauses i v n own }
     {
         let clause = self.clause_at(i, n)?;
-        if clause.context != v {
+        let context = clause.context as usize;
+        if context != v {
             Err(Refusal::OtherContext {
                 premise: i,
-                context: clause.context as usize,
+                context,
             })
         } else if has(clause.head.as_slice(), &own) {
             Ok(clause.head)
@@ -137,6 +125,6 @@ pub(crate) fn is_claimed(row: &[Literal], claim: &[Literal]) -> Result<(), Refus
     }
     match first_difference(row, claim) {
         None => Ok(()),
-        Some(i) => Err(Refusal::ClaimDiffers { index: i }),
+        Some(index) => Err(Refusal::ClaimDiffers { index }),
     }
 }

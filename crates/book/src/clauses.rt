@@ -6,7 +6,7 @@ use forms::limits::HEAD_LIMIT;
 use terms::{Literal, Short};
 
 // An open book takes axioms, inclusions and its closing; a closed one takes contexts, steps and questions.
-#[derive(Clone, Copy)]
+#[derive(Clone, Copy, Debug, PartialEq, Eq)]
 pub enum Phase {
     Open,
     Closed,

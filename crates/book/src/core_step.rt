@@ -2,41 +2,49 @@
 ghost use Rattle.std.specs.Prelude.{◌≡◌, [], ◌∷◌, length, replicate};
 ghost use Rattle.terms.specs.Shorts.{held};
 ghost use Rattle.terms.specs.declared.literals.Literal.TheVariants.{Concept};
-ghost use Rattle.calculus.specs.Checks.{core_check};
 ghost use Rattle.book.specs.Contents.{contents};
-ghost use Rattle.calculus.specs.Events.{core};
-ghost use Rattle.calculus.specs.Replies.{after, reply};
+ghost use Rattle.book.specs.Offers.{core_call};
+ghost use Rattle.calculus.specs.Replies.{after, check, reply};
 
+use crate::clauses::Clause;
 use crate::state::Book;
 use calculus::Answer;
+use forms::CoreStep;
 use forms::limits::HEAD_LIMIT;
 use terms::lists::has;
 use terms::{Literal, Refusal, Short};
 
 impl Book {
-    fn check_core(&self, v: u8, a: u8, scratch: usize) -> Result<(), Refusal>
-        ensures { result ≡ core_check (contents self.now) scratch v a }
+    fn check_core(&self, step: &CoreStep, scratch: usize) -> Result<(), Refusal>
+        ensures { result ≡ check (contents self.now) (core_call step.now scratch) }
     {
         self.ready(scratch)?;
+        let v = step.context.index();
         let concepts = self.core_of(v)?;
-        if has(concepts.as_slice(), &a) {
+        if has(concepts.as_slice(), &step.concept) {
             Ok(())
         } else {
-            Err(Refusal::CoreDiffers {
-                context: v as usize,
-            })
+            Err(Refusal::CoreDiffers { context: v })
         }
     }
 
-    // The core step: the clause of v whose head is the concept a alone.
-    pub(crate) fn core(&mut self, v: u8, a: u8, scratch: &mut [Literal]) -> Result<Answer, Refusal>
-        ensures answer { result ≡ reply (contents self.old) (core v a (length scratch.old)) }
-        ensures change { contents self.new ≡ after (contents self.old) (core v a (length scratch.old)) }
+    // The core step: the clause whose head is the concept alone.
+    pub(crate) fn core(
+        &mut self,
+        step: &CoreStep,
+        scratch: &mut [Literal],
+    ) -> Result<Answer, Refusal>
+        ensures answer { result ≡ reply (contents self.old) (core_call step.now (length scratch.old)) }
+        ensures change { contents self.new ≡ after (contents self.old) (core_call step.now (length scratch.old)) }
         ensures cleared { scratch.new ≡ replicate (length scratch.old) (Concept 0) }
     {
-        let checked = self.check_core(v, a, scratch.len());
+        let checked = self.check_core(step, scratch.len());
         scratch.fill(Literal::Concept(0));
-        self.settle(checked, v, &alone(Literal::Concept(a)))
+        let clause = Clause {
+            context: step.context.number() as u8,
+            head: alone(Literal::Concept(step.concept)),
+        };
+        self.settle(checked, clause)
     }
 }
 

@@ -1,48 +1,44 @@
-// What enters a clause, once its step has been checked.
-ghost use Rattle.std.specs.Prelude.{◌≡◌, ◌<◌, length, Ok};
+// What is entered in the numbered lists of a book, and a clause once its step has been checked.
+ghost use Rattle.std.specs.Prelude.{◌≡◌, ◌<◌, ◌≤◌, ◌^◌, [], ◌∷◌, ◌++◌, length, if◌then◌else◌, is_ok, Ok};
 ghost use Rattle.terms.specs.Shorts.{held};
-ghost use Rattle.calculus.specs.Checks.{and_then};
-ghost use Rattle.book.specs.Contents.{contents};
-ghost use Rattle.calculus.specs.Events.{with_clause};
 ghost use Rattle.forms.specs.Limits.{clause_limit};
-ghost use Rattle.calculus.specs.Replies.{held_after};
+ghost use Rattle.calculus.specs.Checks.{and_then};
+ghost use Rattle.calculus.specs.Events.{with_clause};
+ghost use Rattle.calculus.specs.Replies.{held_after, room};
 ghost use Rattle.calculus.specs.declared.answers.Answer.TheVariants.{Entered};
+ghost use Rattle.book.specs.Contents.{contents};
 
 use crate::clauses::Clause;
 use crate::state::Book;
 use calculus::Answer;
-use forms::limits::HEAD_LIMIT;
-use terms::{Literal, Refusal, Short};
+use terms::{Refusal, Short};
+
+// Enters the item under the next number of the list, if a place is free.
+pub(crate) fn enter<T: Copy, const N: usize>(
+    list: &mut Short<T, N>,
+    item: T,
+) -> Result<Answer, Refusal>
+    requires { N ≤ 2 ^ 16 }
+    ensures answer { result ≡ and_then (room (length (held list.old)) N) (λ _. Ok (Entered (length (held list.old)))) }
+    ensures change { held list.new ≡ (if is_ok result then held list.old ++ item ∷ [] else held list.old) }
+{
+    let number = list.len();
+    list.push(item)?;
+    Ok(Answer::Entered(number as u16))
+}
 
 impl Book {
-    // Enters a clause under the next number.
-    fn enter(&mut self, v: u8, head: &Short<Literal, HEAD_LIMIT>) -> u16
-        requires { length (contents self.old).clauses < clause_limit }
-        ensures number { result ≡ length (contents self.old).clauses }
-        ensures change { contents self.new ≡ with_clause (contents self.old) v (held head.now) }
-    {
-        let number = self.clauses.len();
-        let _ = self.clauses.push(Clause {
-            context: v,
-            head: *head,
-        });
-        number as u16
-    }
-
     // Enters the clause if its step passed, and else leaves the book as it was.
     pub(crate) fn settle(
         &mut self,
         checked: Result<(), Refusal>,
-        v: u8,
-        head: &Short<Literal, HEAD_LIMIT>,
+        clause: Clause,
     ) -> Result<Answer, Refusal>
         requires { checked ≡ Ok tt → length (contents self.old).clauses < clause_limit }
         ensures answer { result ≡ and_then checked (λ _. Ok (Entered (length (contents self.old).clauses))) }
-        ensures change { contents self.new ≡ held_after (with_clause (contents self.old) v (held head.now)) (contents self.old) checked }
+        ensures change { contents self.new ≡ held_after (with_clause (contents self.old) clause.context (held clause.head)) (contents self.old) checked }
     {
-        match checked {
-            Ok(_) => Ok(Answer::Entered(self.enter(v, head))),
-            Err(e) => Err(e),
-        }
+        checked?;
+        enter(&mut self.clauses, clause)
     }
 }

@@ -2,29 +2,32 @@
 ghost use Rattle.std.specs.Prelude.{◌≡◌, List, [], length, replicate};
 ghost use Rattle.terms.specs.Shorts.{held};
 ghost use Rattle.terms.specs.declared.literals.Literal.{Literal};
-ghost use Rattle.calculus.specs.Checks.{gathered, hyper_check, hyper_row};
+ghost use Rattle.calculus.specs.Checks.{gathered, hyper_row};
 ghost use Rattle.book.specs.Contents.{contents};
 ghost use Rattle.terms.specs.declared.literals.Literal.TheVariants.{Concept};
-ghost use Rattle.calculus.specs.Events.{hyper};
-ghost use Rattle.calculus.specs.Replies.{after, reply};
+ghost use Rattle.book.specs.Offers.{hyper_call, premise_numbers};
+ghost use Rattle.calculus.specs.Replies.{after, check, reply};
 ghost use Rattle.book.specs.Rows.{Keeps, RowIn};
 
 use crate::checks::{is_claimed, is_count};
+use crate::clauses::Clause;
 use crate::rows::Row;
 use crate::state::Book;
 use calculus::Answer;
-use forms::limits::HEAD_LIMIT;
+use forms::HyperStep;
 use models::ConceptAxiom;
-use terms::{Literal, Refusal, Short};
+use terms::{Literal, Refusal};
 
 impl Book {
     // Puts what each premise has besides its own concept into the row.
-    fn gather(&self, v: u8, left: &[u8], premises: &[u16], row: &mut Row<'_>) -> Result<(), Refusal>
-        ensures { (start : List Literal) → Keeps row.old start → RowIn row.new result (gathered (contents self.now).clauses v left.now premises.now start) }
+    fn gather(&self, step: &HyperStep, left: &[u8], row: &mut Row<'_>) -> Result<(), Refusal>
+        ensures { (start : List Literal) → Keeps row.old start → RowIn row.new result (gathered (contents self.now).clauses step.now.context.number left.now (premise_numbers step.now) start) }
     {
+        let v = step.context.index();
+        let premises = step.premises.as_slice();
         for (i, (concept, premise)) in left.iter().zip(premises).enumerate() {
             let own = Literal::Concept(*concept);
-            let head = self.premise(i, v, *premise, own)?;
+            let head = self.premise(i, v, premise.index(), own)?;
             row.put_all(head.as_slice(), Some(own));
         }
         Ok(())
@@ -33,52 +36,46 @@ impl Book {
     // Puts the right literals, and what each premise has besides its own concept, into the empty row.
     fn hyper_row(
         &self,
-        v: u8,
+        step: &HyperStep,
         implied: &ConceptAxiom,
-        premises: &[u16],
         row: &mut Row<'_>,
     ) -> Result<(), Refusal>
-        ensures { Keeps row.old [] → RowIn row.new result (hyper_row (contents self.now) v (held implied.now.left) premises.now (held implied.now.right)) }
+        ensures { Keeps row.old [] → RowIn row.new result (hyper_row (contents self.now) step.now.context.number (held implied.now.left) (premise_numbers step.now) (held implied.now.right)) }
     {
-        is_count(premises.len(), implied.left().len())?;
+        let left = implied.left();
+        is_count(step.premises.as_slice().len(), left.len())?;
         row.put_all(implied.right(), None);
-        self.gather(v, implied.left(), premises, row)
+        self.gather(step, left, row)
     }
 
     // Whether the step is entered. What it leaves in the scratch is for the caller to clear.
-    fn check_hyper(
-        &self,
-        v: u8,
-        x: u16,
-        premises: &[u16],
-        claim: &[Literal],
-        scratch: &mut [Literal],
-    ) -> Result<(), Refusal>
-        ensures { result ≡ hyper_check (contents self.now) (length scratch.old) v x premises.now claim.now }
+    fn check_hyper(&self, step: &HyperStep, scratch: &mut [Literal]) -> Result<(), Refusal>
+        ensures { result ≡ check (contents self.now) (hyper_call step.now (length scratch.old)) }
     {
         self.ready(scratch.len())?;
-        self.core_of(v)?;
-        let implied = self.concept_axiom(x)?;
+        self.core_of(step.context.index())?;
+        let implied = self.concept_axiom(step.axiom.index())?;
         let mut row = Row::new(scratch);
-        self.hyper_row(v, &implied, premises, &mut row)?;
-        is_claimed(row.as_slice(), claim)
+        self.hyper_row(step, &implied, &mut row)?;
+        is_claimed(row.as_slice(), step.claim.as_slice())
     }
 
-    // The hyper step: the clause `claim` of v, from axiom x and a premise for each of its left concepts.
+    // The hyper step: the claim, from the axiom and a premise for each of its left concepts.
     pub(crate) fn hyper(
         &mut self,
-        v: u8,
-        x: u16,
-        premises: &[u16],
-        claim: &Short<Literal, HEAD_LIMIT>,
+        step: &HyperStep,
         scratch: &mut [Literal],
     ) -> Result<Answer, Refusal>
-        ensures answer { result ≡ reply (contents self.old) (hyper v x premises.now (held claim.now) (length scratch.old)) }
-        ensures change { contents self.new ≡ after (contents self.old) (hyper v x premises.now (held claim.now) (length scratch.old)) }
+        ensures answer { result ≡ reply (contents self.old) (hyper_call step.now (length scratch.old)) }
+        ensures change { contents self.new ≡ after (contents self.old) (hyper_call step.now (length scratch.old)) }
         ensures cleared { scratch.new ≡ replicate (length scratch.old) (Concept 0) }
     {
-        let checked = self.check_hyper(v, x, premises, claim.as_slice(), scratch);
+        let checked = self.check_hyper(step, scratch);
         scratch.fill(Literal::Concept(0));
-        self.settle(checked, v, claim)
+        let clause = Clause {
+            context: step.context.number() as u8,
+            head: *step.claim.list(),
+        };
+        self.settle(checked, clause)
     }
 }

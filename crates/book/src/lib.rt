@@ -16,5 +16,6 @@ mod rows;
 mod state;
 
 pub use calculus::Answer;
+pub use checks::SCRATCH_NEEDED;
 pub use clauses::Clause;
 pub use state::Book;

@@ -7,7 +7,7 @@ ghost use Rattle.calculus.specs.Replies.{after, reply};
 
 use crate::state::Book;
 use calculus::Answer;
-use forms::{Form, Kind};
+use forms::Form;
 use models::Sample;
 use terms::{Literal, Refusal};
 
@@ -24,35 +24,16 @@ impl Book {
         ensures scratch { scratch.new ≡ scratch_after (call_of form.now (length scratch.old) (S.meaning sample.now)) scratch.old }
         ensures law { KeepsLaw (contents self.old) (call_of form.now (length scratch.old) (S.meaning sample.now)) result (contents self.new) }
     {
-        match form.kind() {
-            Kind::Axiom => self.enter_axiom(form.implied()),
-            Kind::Under => self.enter_inclusion(form.role(), form.upper_role()),
-            Kind::Close => self.close(),
-            Kind::Context => self.open_context(form.concepts()),
-            Kind::Core => self.core(form.context_number(), form.concept(), scratch),
-            Kind::Hyper => self.hyper(
-                form.context_number(),
-                form.axiom_number() as u16,
-                form.premises().as_slice(),
-                form.claim(),
-                scratch,
-            ),
-            Kind::Pred => self.pred(
-                form.context_number(),
-                form.first_clause(),
-                form.role(),
-                form.concept(),
-                form.sides(),
-                form.far_clause(),
-                form.claim(),
-                scratch,
-            ),
-            Kind::Ask => self.ask(form.concepts().as_slice(), form.other_concepts().as_slice()),
-            Kind::Refute => self.refute(
-                form.concepts().as_slice(),
-                form.other_concepts().as_slice(),
-                sample,
-            ),
+        match form {
+            Form::Axiom(axiom) => self.enter_axiom(*axiom),
+            Form::Under { role, upper } => self.enter_inclusion(*role, *upper),
+            Form::Close => self.close(),
+            Form::Context(concepts) => self.open_context(concepts),
+            Form::Core(step) => self.core(step, scratch),
+            Form::Hyper(step) => self.hyper(step, scratch),
+            Form::Pred(step) => self.pred(step, scratch),
+            Form::Ask(asked) => self.ask(asked),
+            Form::Refute(asked) => self.refute(asked, sample),
         }
     }
 }

@@ -1,13 +1,12 @@
 // The pred step: from `some e a` in a clause, through its sides, to a clause of a far context, and back.
-ghost use Rattle.std.specs.Prelude.{◌≡◌, ◌≤◌, List, [], length, replicate};
+ghost use Rattle.std.specs.Prelude.{◌≡◌, List, [], length, replicate};
 ghost use Rattle.terms.specs.Shorts.{held};
 ghost use Rattle.terms.specs.declared.literals.Literal.{Literal};
-ghost use Rattle.calculus.specs.Checks.{back_brings, back_test, core_named, far_row, near_row, pred_check, reaches_test, same_core, side_brings, side_head, side_test, walked};
-ghost use Rattle.book.specs.Contents.{clause_of, contents};
 ghost use Rattle.terms.specs.declared.literals.Literal.TheVariants.{Concept};
-ghost use Rattle.calculus.specs.Events.{pred};
-ghost use Rattle.calculus.specs.Replies.{after, reply};
-ghost use Rattle.calculus.specs.Limits.{side_limit};
+ghost use Rattle.calculus.specs.Checks.{back_brings, back_test, core_named, far_row, near_row, reaches_test, same_core, side_brings, side_head, side_test, walked};
+ghost use Rattle.calculus.specs.Replies.{after, check, reply};
+ghost use Rattle.book.specs.Contents.{clause_of, contents};
+ghost use Rattle.book.specs.Offers.{pred_call};
 ghost use Rattle.book.specs.Rows.{Keeps, RowIn};
 ghost use Rattle.book.specs.Views.{seen};
 
@@ -16,8 +15,8 @@ use crate::clauses::Clause;
 use crate::rows::Row;
 use crate::state::Book;
 use calculus::Answer;
-use forms::Side;
-use forms::limits::{HEAD_LIMIT, LIST_LIMIT};
+use forms::limits::HEAD_LIMIT;
+use forms::{PredStep, Side};
 use terms::lists::is_within;
 use terms::{Literal, Refusal, Role, Short};
 
@@ -35,14 +34,14 @@ impl Book {
     fn side_head(
         &self,
         i: usize,
-        v: u8,
+        v: usize,
         e: Role,
         side: Side,
     ) -> Result<Short<Literal, HEAD_LIMIT>, Refusal>
         ensures { seen held result ≡ side_head (contents self.now) i v e.code side }
     {
-        let head = self.premise(i, v, side.clause(), side.literal())?;
-        if self.reaches(e, side.role()) {
+        let head = self.premise(i, v, side.clause.index(), side.literal())?;
+        if self.reaches(e, side.role) {
             Ok(head)
         } else {
             Err(Refusal::RoleNotReached { premise: i })
@@ -54,23 +53,19 @@ impl Book {
         ensures { result ≡ back_test (contents self.now) e.code i literal }
     {
         match literal {
-            Literal::Forall(t, c) => {
-                if self.reaches(e.mirror(), t) {
-                    Ok(c)
-                } else {
-                    Err(Refusal::LiteralUnfit { index: i })
-                }
-            }
+            Literal::Forall(t, c) if self.reaches(e.mirror(), t) => Ok(c),
             _ => Err(Refusal::LiteralUnfit { index: i }),
         }
     }
 
     // Puts what each side has besides its own literal into the row.
-    fn gather_sides(&self, v: u8, e: Role, sides: &[Side], row: &mut Row<'_>) -> Result<(), Refusal>
-        ensures { (start : List Literal) → Keeps row.old start → RowIn row.new result (walked (side_test (contents self.now) v e.code) side_brings 0 sides.now start) }
+    fn gather_sides(&self, step: &PredStep, row: &mut Row<'_>) -> Result<(), Refusal>
+        ensures { (start : List Literal) → Keeps row.old start → RowIn row.new result (walked (side_test (contents self.now) step.now.context.number step.now.role.code) side_brings 0 (held step.now.sides.list) start) }
     {
+        let v = step.context.index();
+        let sides = step.sides.as_slice();
         for (i, side) in sides.iter().enumerate() {
-            let head = self.side_head(i + 1, v, e, *side)?;
+            let head = self.side_head(i + 1, v, step.role, *side)?;
             row.put_all(head.as_slice(), Some(side.literal()));
         }
         Ok(())
@@ -88,116 +83,80 @@ impl Book {
 }
 
 impl Book {
-    // Puts what the clauses of v give into the empty row.
-    fn near_row(
-        &self,
-        v: u8,
-        p: u16,
-        e: Role,
-        a: u8,
-        sides: &[Side],
-        row: &mut Row<'_>,
-    ) -> Result<(), Refusal>
-        ensures { Keeps row.old [] → RowIn row.new result (near_row (contents self.now) v p e a sides.now) }
+    // Puts what the clauses of the step's context give into the empty row.
+    fn near_row(&self, step: &PredStep, row: &mut Row<'_>) -> Result<(), Refusal>
+        ensures { Keeps row.old [] → RowIn row.new result (near_row (contents self.now) step.now.context.number step.now.first.number step.now.role step.now.concept (held step.now.sides.list)) }
     {
-        let own = Literal::Exists(e, a);
-        let head = self.premise(0, v, p, own)?;
+        let own = Literal::Exists(step.role, step.concept);
+        let head = self.premise(0, step.context.index(), step.first.index(), own)?;
         row.put_all(head.as_slice(), Some(own));
-        self.gather_sides(v, e, sides, row)
+        self.gather_sides(step, row)
     }
 
     // Puts what the far clause brings back into the row.
-    fn far_row(
-        &self,
-        e: Role,
-        a: u8,
-        sides: &[Side],
-        far: &Clause,
-        row: &mut Row<'_>,
-    ) -> Result<(), Refusal>
-        requires { length sides.now ≤ side_limit }
-        ensures { (start : List Literal) → Keeps row.old start → RowIn row.new result (far_row (contents self.now) e.code a sides.now (clause_of far.now) start) }
+    fn far_row(&self, step: &PredStep, far: &Clause, row: &mut Row<'_>) -> Result<(), Refusal>
+        ensures { (start : List Literal) → Keeps row.old start → RowIn row.new result (far_row (contents self.now) step.now.role.code step.now.concept (held step.now.sides.list) (clause_of far.now) start) }
     {
-        let u = far.context;
-        let concepts = self.core_or(
-            u,
-            Refusal::CoreDiffers {
-                context: u as usize,
-            },
-        )?;
-        let names = names_of_core(a, sides);
-        is_core(u, concepts.as_slice(), names.as_slice())?;
-        self.gather_back(e, far.head.as_slice(), row)
+        let u = far.context as usize;
+        let concepts = self.core_or(u, Refusal::CoreDiffers { context: u })?;
+        is_core(u, concepts.as_slice(), names_of_core(step).as_slice())?;
+        self.gather_back(step.role, far.head.as_slice(), row)
     }
 
     // Whether the step is entered. What it leaves in the scratch is for the caller to clear.
-    fn check_pred(
-        &self,
-        v: u8,
-        p: u16,
-        e: Role,
-        a: u8,
-        sides: &Short<Side, LIST_LIMIT>,
-        q: u16,
-        claim: &[Literal],
-        scratch: &mut [Literal],
-    ) -> Result<(), Refusal>
-        ensures { result ≡ pred_check (contents self.now) (length scratch.old) v p e a (held sides.now) q claim.now }
+    fn check_pred(&self, step: &PredStep, scratch: &mut [Literal]) -> Result<(), Refusal>
+        ensures { result ≡ check (contents self.now) (pred_call step.now (length scratch.old)) }
     {
-        let sides = sides.as_slice();
         self.ready(scratch.len())?;
-        self.core_of(v)?;
+        self.core_of(step.context.index())?;
         let mut row = Row::new(scratch);
-        self.near_row(v, p, e, a, sides, &mut row)?;
-        let far = self.clause_at(sides.len() + 1, q)?;
-        self.far_row(e, a, sides, &far, &mut row)?;
-        is_claimed(row.as_slice(), claim)
+        self.near_row(step, &mut row)?;
+        let sides = step.sides.as_slice().len();
+        let far = self.clause_at(sides + 1, step.far.index())?;
+        self.far_row(step, &far, &mut row)?;
+        is_claimed(row.as_slice(), step.claim.as_slice())
     }
 
-    // The pred step: the clause `claim` of v, from `some e a` in clause p, the sides, and clause q of the far context.
+    // The pred step: the claim, from `some role concept` in the first clause, the sides, and the far clause.
     pub(crate) fn pred(
         &mut self,
-        v: u8,
-        p: u16,
-        e: Role,
-        a: u8,
-        sides: &Short<Side, LIST_LIMIT>,
-        q: u16,
-        claim: &Short<Literal, HEAD_LIMIT>,
+        step: &PredStep,
         scratch: &mut [Literal],
     ) -> Result<Answer, Refusal>
-        ensures answer { result ≡ reply (contents self.old) (pred v p e a (held sides.now) q (held claim.now) (length scratch.old)) }
-        ensures change { contents self.new ≡ after (contents self.old) (pred v p e a (held sides.now) q (held claim.now) (length scratch.old)) }
+        ensures answer { result ≡ reply (contents self.old) (pred_call step.now (length scratch.old)) }
+        ensures change { contents self.new ≡ after (contents self.old) (pred_call step.now (length scratch.old)) }
         ensures cleared { scratch.new ≡ replicate (length scratch.old) (Concept 0) }
     {
-        let checked = self.check_pred(v, p, e, a, sides, q, claim.as_slice(), scratch);
+        let checked = self.check_pred(step, scratch);
         scratch.fill(Literal::Concept(0));
-        self.settle(checked, v, claim)
+        let clause = Clause {
+            context: step.context.number() as u8,
+            head: *step.claim.list(),
+        };
+        self.settle(checked, clause)
     }
 }
 
 // The concepts that the core of the far context is to be.
-fn names_of_core(a: u8, sides: &[Side]) -> Short<u8, NAME_LIMIT>
-    requires { length sides.now ≤ side_limit }
-    ensures { held result ≡ core_named a sides.now }
+fn names_of_core(step: &PredStep) -> Short<u8, NAME_LIMIT>
+    ensures { held result ≡ core_named step.now.concept (held step.now.sides.list) }
 {
     let mut names = Short::new(0);
-    let _ = names.push(a);
+    let _ = names.push(step.concept);
+    let sides = step.sides.as_slice();
     for side in sides {
-        let _ = names.push(side.concept());
+        let _ = names.push(side.concept);
     }
     names
 }
 
 // The core of u is the set of these concepts.
-fn is_core(u: u8, concepts: &[u8], names: &[u8]) -> Result<(), Refusal>
+fn is_core(u: usize, concepts: &[u8], names: &[u8]) -> Result<(), Refusal>
     ensures { result ≡ same_core u concepts.now names.now }
 {
     if is_within(concepts, names) && is_within(names, concepts) {
         Ok(())
     } else {
-        Err(Refusal::CoreDiffers {
-            context: u as usize,
-        })
+        Err(Refusal::CoreDiffers { context: u })
     }
 }

@@ -15,10 +15,7 @@ impl Book {
     pub fn is_closed(&self) -> bool
         ensures { result ≡ (contents self.now).closed }
     {
-        match self.phase {
-            Phase::Open => false,
-            Phase::Closed => true,
-        }
+        matches!(self.phase, Phase::Closed)
     }
 
     /// The axioms, in the order of their numbers.

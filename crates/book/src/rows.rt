@@ -80,17 +80,9 @@ fn push_in<T: Ordered>(row: &mut [T], x: T) -> Option<T>
 pub(crate) fn first_difference<T: Ordered>(xs: &[T], ys: &[T]) -> Option<usize>
     ensures { result ≡ first_apart T.precedes 0 xs.now ys.now }
 {
-    for i in 0..xs.len() {
-        if i >= ys.len() {
-            return Some(i);
-        }
-        if !xs[i].same(&ys[i]) {
-            return Some(i);
-        }
-    }
-    if xs.len() < ys.len() {
-        Some(xs.len())
-    } else {
-        None
+    match xs.iter().zip(ys).position(|(x, y)| !x.same(y)) {
+        Some(i) => Some(i),
+        None if xs.len() == ys.len() => None,
+        None => Some(xs.len().min(ys.len())),
     }
 }

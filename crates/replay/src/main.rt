@@ -9,13 +9,10 @@ ghost use Rattle.calculus.specs.Replies.{after};
 ghost use Rattle.book.specs.Contents.{contents};
 ghost use Rattle.book.specs.Offers.{call_of};
 
-use book::Book;
+use book::{Book, SCRATCH_NEEDED};
 use forms::{Form, LiteralNumbers};
 use models::{Entry, Fact, List};
 use terms::Literal;
-
-// The literals that a step is to be lent.
-const SCRATCH: usize = 111;
 
 // The most entries of the sample.
 const MEMORY: usize = 4;
@@ -116,7 +113,7 @@ fn offer(
 ) -> anyhow::Result<()>
     ensures { contents book.new ≡ after (contents book.old) (call_of form.now scratch_needed (list_meaning (listed.contents list.now))) }
 {
-    let mut scratch = [Literal::Concept(0); SCRATCH];
+    let mut scratch = [Literal::Concept(0); SCRATCH_NEEDED];
     match book.offer(form, &mut scratch, list) {
         Ok(answer) => println!(rt; "{line}  ({answer})")?,
         Err(refusal) => println!(rt; "{line}  ({refusal})")?,

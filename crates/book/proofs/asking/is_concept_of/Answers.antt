@@ -1,4 +1,4 @@
-use Rattle.std.proofs.Common.{map, sym, ap, ◌∙◌}
+use Rattle.std.proofs.Common.{◌≡◌, false, map, sym, ap, ◌∙◌, ⊎_elim}
 use Rattle.terms.specs.Lists.{member}
 use Rattle.terms.specs.Literals.{literal_precedes}
 use Rattle.terms.specs.declared.literals.Literal.{Literal}
@@ -10,7 +10,7 @@ pub returns-in-Concept : goal.returns-in-Concept
 returns-in-Concept c = c.has.ensures.value ∙ concept_among _ c.args.concepts.now ∙ ap (λ (l : Literal). member literal_precedes l (map Concept c.args.concepts.now)) (sym c.in-Concept.is)
 
 pub returns-in-Exists : goal.returns-in-Exists
-returns-in-Exists c = exists_not_among _ _ c.args.concepts.now ∙ ap (λ (l : Literal). member literal_precedes l (map Concept c.args.concepts.now)) (sym c.in-Exists.is)
-
-pub returns-in-Forall : goal.returns-in-Forall
-returns-in-Forall c = forall_not_among _ _ c.args.concepts.now ∙ ap (λ (l : Literal). member literal_precedes l (map Concept c.args.concepts.now)) (sym c.in-Forall.is)
+returns-in-Exists c =
+    let among = λ (l : Literal). member literal_precedes l (map Concept c.args.concepts.now) in
+    let none : false ≡ among c.args.literal = ⊎_elim (λ p. exists_not_among p.0 p.1 c.args.concepts.now ∙ ap among (sym p.2)) (λ p. forall_not_among p.0 p.1 c.args.concepts.now ∙ ap among (sym p.2)) c.in-Exists.is in
+    none

@@ -4,4 +4,4 @@ use Rattle.calculus.specs.Checks.{core_named}
 use Rattle.book.proofs.pred.names_of_core.Given as goal
 
 abbrev pub invariant-loop-side : goal.invariant-loop-side
-invariant-loop-side l = (l.side-index ≤ length l.sides) × (held l.names ≡ core_named l.a (take l.side-index l.sides))
+invariant-loop-side l = (l.side-index ≤ length l.sides) × (held l.names ≡ core_named l.step.concept (take l.side-index l.sides))

@@ -1,35 +1,42 @@
-use Rattle.std.proofs.Common.{◌≡◌, ℕ, length, drop, Some, sym, ap, ◌∙◌, arith}
-use Rattle.std.proofs.lemmas.List.{drop_all, length-drop}
-use Rattle.terms.proofs.Turns.{drop_read}
-use Rattle.book.proofs.Places.{apart_same, apart_here, apart_first, apart_second, apart_none}
+use Rattle.std.proofs.Common.{◌≡◌, None, Option, rules, sym, ap, ◌∙◌, arith}
+use borrow.Author.Tests.{tests}
+use Rattle.std.specs.List.{position_from, zip}
+use Rattle.std.specs.Slice.Iter.{iter_rest}
+use Rattle.std.proofs.lemmas.Iterator.{YieldsList-from_slice, YieldsList-from_zip}
+use Rattle.std.proofs.lemmas.Iterator.Adapters.{position_from-zero}
+use Rattle.std.proofs.lemmas.Iterator.Search.{position_from_yields_List}
+use Rattle.book.proofs.Apart.{apart_at, apart_end, apart_none, differ}
 use Rattle.book.proofs.rows.first_difference.Goals as goal
 
-pub returns-then-i-ys : goal.returns-then-i-ys
-returns-then-i-ys g c =
+pub returns-in-Some : goal.returns-in-Some
+returns-in-Some g c =
+    let lt = g.T.Ordered.precedes in
     let xs = c.args.xs.now in
     let ys = c.args.ys.now in
-    let i = c.loop-i.i in
-    apart_second g.T.Ordered.precedes i (drop i xs) (drop i ys) _ (omega (arith, length-drop i xs)) (drop_all i ys c.if-i-ys.true) c.loop-i.invariant
+    let a : iter_rest c.zip.result.a ≡ xs = search rules in
+    let b : iter_rest c.zip.result.b ≡ ys = search rules in
+    let first : c.position.result ≡ position_from (differ lt) 0 (zip xs ys) =
+    position_from_yields_List {s = c.zip.result} (differ lt) c.position.new.self _ c.position.result c.position.ensures.ran (YieldsList-from_zip (YieldsList-from_slice {s = c.zip.result.a} xs a) (YieldsList-from_slice {s = c.zip.result.b} ys b)) (λ y b q k. search (rules, tests)) ∙ position_from-zero (differ lt) (zip xs ys) in
+    apart_at lt 0 c.in-Some.i xs ys (sym first ∙ c.in-Some.is)
 
-pub returns-then-not-same : goal.returns-then-not-same
-returns-then-not-same g c =
-    apart_here g.T.Ordered.precedes c.loop-i.i _ _ _ _ _ _ _ (drop_read _ _ _ c.loop-i-test.true c.index-xs-i.is) (drop_read _ _ _ c.if-i-ys.false c.index-ys-i.is) c.loop-i.invariant (sym c.if-not-same.ensures)
-
-pub loop-i-preserved : goal.loop-i-preserved
-loop-i-preserved g c =
-    apart_same g.T.Ordered.precedes c.loop-i.i _ _ _ _ _ _ _ (drop_read _ _ _ c.loop-i-test.true c.index-xs-i.is) (drop_read _ _ _ c.if-i-ys.false c.index-ys-i.is) c.loop-i.invariant (sym c.if-not-same.ensures)
-
-pub returns-then-xs-ys : goal.returns-then-xs-ys
-returns-then-xs-ys g c =
+pub returns-in-None : goal.returns-in-None
+returns-in-None g c =
+    let lt = g.T.Ordered.precedes in
     let xs = c.args.xs.now in
     let ys = c.args.ys.now in
-    let i = c.loop-i.i in
-    let all : length xs ≡ i = omega arith in
-    ap (λ (k : ℕ). Some k) all ∙ apart_first g.T.Ordered.precedes i (drop i xs) (drop i ys) _ (drop_all i xs c.loop-i-test.false) (omega (arith, length-drop i ys)) c.loop-i.invariant
+    let a : iter_rest c.zip.result.a ≡ xs = search rules in
+    let b : iter_rest c.zip.result.b ≡ ys = search rules in
+    let first : c.position.result ≡ position_from (differ lt) 0 (zip xs ys) =
+    position_from_yields_List {s = c.zip.result} (differ lt) c.position.new.self _ c.position.result c.position.ensures.ran (YieldsList-from_zip (YieldsList-from_slice {s = c.zip.result.a} xs a) (YieldsList-from_slice {s = c.zip.result.b} ys b)) (λ y b q k. search (rules, tests)) ∙ position_from-zero (differ lt) (zip xs ys) in
+    apart_none lt 0 xs ys (sym first ∙ c.in-None.is) c.if-xs-ys.true
 
-pub returns-else-xs-ys : goal.returns-else-xs-ys
-returns-else-xs-ys g c =
+pub returns-in-None-2 : goal.returns-in-None-2
+returns-in-None-2 g c =
+    let lt = g.T.Ordered.precedes in
     let xs = c.args.xs.now in
     let ys = c.args.ys.now in
-    let i = c.loop-i.i in
-    apart_none g.T.Ordered.precedes i (drop i xs) (drop i ys) _ (drop_all i xs c.loop-i-test.false) (drop_all i ys (omega arith)) c.loop-i.invariant
+    let a : iter_rest c.zip.result.a ≡ xs = search rules in
+    let b : iter_rest c.zip.result.b ≡ ys = search rules in
+    let first : c.position.result ≡ position_from (differ lt) 0 (zip xs ys) =
+    position_from_yields_List {s = c.zip.result} (differ lt) c.position.new.self _ c.position.result c.position.ensures.ran (YieldsList-from_zip (YieldsList-from_slice {s = c.zip.result.a} xs a) (YieldsList-from_slice {s = c.zip.result.b} ys b)) (λ y b q k. search (rules, tests)) ∙ position_from-zero (differ lt) (zip xs ys) in
+    apart_end lt 0 c.min.result xs ys (sym first ∙ c.in-None.is) c.if-xs-ys.false (omega (arith, c.min.ensures))

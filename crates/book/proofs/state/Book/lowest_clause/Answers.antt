@@ -1,20 +1,31 @@
-use Rattle.std.proofs.Common.{List, map, sym, ap, ◌∙◌}
-use Rattle.std.proofs.lemmas.List.{drop_all}
-use Rattle.terms.proofs.Turns.{drop_read}
+use Rattle.std.proofs.Common.{◌≡◌, Bool, sym, rules, ◌∙◌}
+use borrow.Author.Tests.{tests}
+use Rattle.std.proofs.lemmas.Iterator.{YieldsList-from_slice}
+use Rattle.std.proofs.lemmas.Iterator.Adapters.{position_from-zero}
+use Rattle.std.proofs.lemmas.Iterator.Search.{position_from_yields_List}
+use Rattle.terms.specs.Shorts.{held}
+use Rattle.calculus.specs.Replies.{covering, lowest_clause}
 use Rattle.book.specs.Contents.{clause_of, contents}
-use Rattle.calculus.specs.Replies.{lowest_clause}
 use Rattle.book.specs.declared.clauses.Clause.{Clause}
-use Rattle.book.proofs.Asked.{lowest_here, lowest_on}
+use Rattle.book.proofs.Asked.{lowest_position}
 use Rattle.book.proofs.state.Book.lowest_clause.Goals as goal
 
-pub returns-then-covers : goal.returns-then-covers
-returns-then-covers c =
-    lowest_here (contents c.args.self.now) c.args.k.now c.args.m.now c.loop-i.i _ c.index-clauses-i.result _ _ (drop_read c.as_slice-clauses.result.now c.loop-i.i c.index-clauses-i.result c.loop-i-test.true c.index-clauses-i.is) c.loop-i.invariant c.if-covers.ensures
-
-pub loop-i-preserved : goal.loop-i-preserved
-loop-i-preserved c =
-    lowest_on (contents c.args.self.now) c.args.k.now c.args.m.now c.loop-i.i _ c.index-clauses-i.result _ _ (drop_read c.as_slice-clauses.result.now c.loop-i.i c.index-clauses-i.result c.loop-i-test.true c.index-clauses-i.is) c.loop-i.invariant c.if-covers.ensures
+pub returns-in_err-n : goal.returns-in_err-n
+returns-in_err-n c =
+    let R = contents c.args.self.now in
+    let K = held c.args.asked.now.left.list in
+    let M = held c.args.asked.now.right.list in
+    let cs = held c.args.self.now.clauses in
+    let test : Clause → Bool = λ d. covering R K M (clause_of d) in
+    let first : c.position.result ≡ lowest_clause R K M 0 (contents c.args.self.now).clauses = position_from_yields_List test _ _ c.position.result c.position.ensures.ran (YieldsList-from_slice cs cc) (λ x b q k. search (rules, tests)) ∙ position_from-zero test cs ∙ lowest_position R K M 0 cs in
+    c.from_residual.ensures ∙ sym (c.in_err-n.was) ∙ first
 
 pub returns : goal.returns
 returns c =
-    sym (ap (λ (l : List Clause). lowest_clause (contents c.args.self.now) c.args.k.now c.args.m.now c.loop-i.i (map clause_of l)) (drop_all c.loop-i.i c.as_slice-clauses.result.now c.loop-i-test.false)) ∙ c.loop-i.invariant
+    let R = contents c.args.self.now in
+    let K = held c.args.asked.now.left.list in
+    let M = held c.args.asked.now.right.list in
+    let cs = held c.args.self.now.clauses in
+    let test : Clause → Bool = λ d. covering R K M (clause_of d) in
+    let first : c.position.result ≡ lowest_clause R K M 0 (contents c.args.self.now).clauses = position_from_yields_List test _ _ c.position.result c.position.ensures.ran (YieldsList-from_slice cs cc) (λ x b q k. search (rules, tests)) ∙ position_from-zero test cs ∙ lowest_position R K M 0 cs in
+    sym (c.in_ok-n.was) ∙ first
