@@ -40,7 +40,7 @@ impl Book {
     ) -> Result<Short<Literal, HEAD_LIMIT>, Refusal>
         ensures { seen held result ≡ side_head (contents self.now) i v e.code side }
     {
-        let head = self.premise(i, v, side.clause.index(), side.literal())?;
+        let head = self.premise(i, v, side.clause as usize, side.literal())?;
         if self.reaches(e, side.role) {
             Ok(head)
         } else {
