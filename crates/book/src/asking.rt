@@ -41,10 +41,8 @@ impl Book {
     fn covers(&self, clause: &Clause, asked: &Subsumption) -> bool
         ensures { result ≡ covering (contents self.now) (held asked.now.left.list) (held asked.now.right.list) (clause_of clause.now) }
     {
-        let Some(concepts) = self.contexts.get(clause.context as usize) else {
-            return false;
-        };
-        is_within(concepts.as_slice(), asked.left.as_slice())
+        let concepts = self.contexts.get(clause.context as usize);
+        concepts.is_some_and(|core| is_within(core.as_slice(), asked.left.as_slice()))
             && are_concepts_of(clause.head.as_slice(), asked.right.as_slice())
     }
 
@@ -65,7 +63,7 @@ impl Book {
     {
         self.be_closed()?;
         let lowest = self.lowest_clause(asked);
-        Ok(lowest.map_or(Answer::Unshown, |n| Answer::Shown(n)))
+        Ok(lowest.map_or(Answer::Unshown, Answer::Shown))
     }
 
     // Which element of the sample refutes the subsumption in a closed book.
@@ -79,7 +77,7 @@ impl Book {
         self.be_closed()?;
         judge(self.axioms.as_slice(), sample)?;
         lowest_contradiction(asked.left.as_slice(), asked.right.as_slice(), sample)
-            .map(|x| Answer::Refuted(x))
+            .map(Answer::Refuted)
             .ok_or(Refusal::NoneContradicts)
     }
 }

@@ -8,6 +8,7 @@ ghost use Rattle.calculus.specs.Events.{close, empty, enter_axiom, enter_inclusi
 ghost use Rattle.calculus.specs.Law.{Had};
 ghost use Rattle.calculus.specs.Replies.{after, reply};
 
+use crate::checks::passes;
 use crate::clauses::{Clause, Phase};
 use crate::entry::enter;
 use crate::state::Book;
@@ -41,20 +42,14 @@ impl Book {
     pub(crate) fn be_open(&self) -> Result<(), Refusal>
         ensures { result ≡ passes (not (contents self.now).closed) BookClosed }
     {
-        match self.phase {
-            Phase::Open => Ok(()),
-            Phase::Closed => Err(Refusal::BookClosed),
-        }
+        passes(!self.is_closed(), Refusal::BookClosed)
     }
 
     // Refuses what only a closed book takes.
     pub(crate) fn be_closed(&self) -> Result<(), Refusal>
         ensures { result ≡ passes (contents self.now).closed BookOpen }
     {
-        match self.phase {
-            Phase::Open => Err(Refusal::BookOpen),
-            Phase::Closed => Ok(()),
-        }
+        passes(self.is_closed(), Refusal::BookOpen)
     }
 
     // Enters a concept axiom in an open book.

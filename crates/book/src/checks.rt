@@ -3,7 +3,7 @@ ghost use Rattle.std.specs.Prelude.{◌≡◌};
 ghost use Rattle.std.specs.List.{slice_get};
 ghost use Rattle.terms.specs.Shorts.{held};
 ghost use Rattle.terms.specs.declared.refusals.Refusal.TheVariants.{ClauseNotEntered, NoConceptAxiom};
-ghost use Rattle.calculus.specs.Checks.{claimed, core_of, counted, premise_head, ready, required, sides_of};
+ghost use Rattle.calculus.specs.Checks.{claimed, core_of, passes, premise_head, ready, required, sides_of};
 ghost use Rattle.book.specs.Contents.{clause_of, contents};
 ghost use Rattle.book.specs.Views.{both_sides, seen};
 
@@ -24,19 +24,15 @@ impl Book {
         ensures { result ≡ ready (contents self.now) scratch }
     {
         self.be_closed()?;
-        if scratch < SCRATCH_NEEDED {
-            return Err(Refusal::MemoryTooShort {
-                needed: SCRATCH_NEEDED,
-            });
-        }
+        let short = Refusal::MemoryTooShort {
+            needed: SCRATCH_NEEDED,
+        };
+        passes(scratch >= SCRATCH_NEEDED, short)?;
         let used = self.clauses.len();
-        if used < CLAUSE_LIMIT {
-            Ok(())
-        } else {
-            Err(Refusal::NoPlaceFree {
-                limit: CLAUSE_LIMIT,
-            })
-        }
+        let full = Refusal::NoPlaceFree {
+            limit: CLAUSE_LIMIT,
+        };
+        passes(used < CLAUSE_LIMIT, full)
     }
 
     // The core of the context v, or this refusal where v was not opened.
@@ -89,40 +85,30 @@ impl Book {
     {
         let clause = self.clause_at(i, n)?;
         let context = clause.context as usize;
-        if context != v {
-            Err(Refusal::OtherContext {
-                premise: i,
-                context,
-            })
-        } else if has(clause.head.as_slice(), &own) {
-            Ok(clause.head)
-        } else {
-            Err(Refusal::LiteralAbsent { premise: i })
-        }
+        let other = Refusal::OtherContext {
+            premise: i,
+            context,
+        };
+        passes(context == v, other)?;
+        let absent = Refusal::LiteralAbsent { premise: i };
+        passes(has(clause.head.as_slice(), &own), absent)?;
+        Ok(clause.head)
     }
 }
 
-// There are as many premises as left concepts.
-pub(crate) fn is_count(premises: usize, left: usize) -> Result<(), Refusal>
-    ensures { result ≡ counted premises left }
+// Nothing where the test passes, or this refusal.
+pub(crate) fn passes(test: bool, otherwise: Refusal) -> Result<(), Refusal>
+    ensures { result ≡ passes test otherwise }
 {
-    if premises == left {
-        Ok(())
-    } else {
-        Err(Refusal::PremisesMiscounted {
-            given: premises,
-            needed: left,
-        })
-    }
+    if test { Ok(()) } else { Err(otherwise) }
 }
 
 // The row is short enough for a head, and it is the claim.
 pub(crate) fn is_claimed(row: &[Literal], claim: &[Literal]) -> Result<(), Refusal>
     ensures { result ≡ claimed row.now claim.now }
 {
-    if row.len() > HEAD_LIMIT {
-        return Err(Refusal::HeadTooLong { limit: HEAD_LIMIT });
-    }
+    let long = Refusal::HeadTooLong { limit: HEAD_LIMIT };
+    passes(row.len() <= HEAD_LIMIT, long)?;
     match first_difference(row, claim) {
         None => Ok(()),
         Some(index) => Err(Refusal::ClaimDiffers { index }),

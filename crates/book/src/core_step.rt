@@ -6,6 +6,7 @@ ghost use Rattle.book.specs.Contents.{contents};
 ghost use Rattle.book.specs.Offers.{core_call};
 ghost use Rattle.calculus.specs.Replies.{after, check, reply};
 
+use crate::checks::passes;
 use crate::clauses::Clause;
 use crate::state::Book;
 use calculus::Answer;
@@ -21,11 +22,8 @@ impl Book {
         self.ready(scratch)?;
         let v = step.context.index();
         let concepts = self.core_of(v)?;
-        if has(concepts.as_slice(), &step.concept) {
-            Ok(())
-        } else {
-            Err(Refusal::CoreDiffers { context: v })
-        }
+        let within = has(concepts.as_slice(), &step.concept);
+        passes(within, Refusal::CoreDiffers { context: v })
     }
 
     // The core step: the clause whose head is the concept alone.

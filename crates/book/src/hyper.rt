@@ -9,7 +9,7 @@ ghost use Rattle.book.specs.Offers.{hyper_call, premise_numbers};
 ghost use Rattle.calculus.specs.Replies.{after, check, reply};
 ghost use Rattle.book.specs.Rows.{Keeps, RowIn};
 
-use crate::checks::{is_claimed, is_count};
+use crate::checks::{is_claimed, passes};
 use crate::clauses::Clause;
 use crate::rows::Row;
 use crate::state::Book;
@@ -43,7 +43,12 @@ impl Book {
         ensures { Keeps row.old [] → RowIn row.new result (hyper_row (contents self.now) step.now.context.number (held implied.now.left) (premise_numbers step.now) (held implied.now.right)) }
     {
         let left = implied.left();
-        is_count(step.premises.as_slice().len(), left.len())?;
+        let given = step.premises.as_slice().len();
+        let needed = left.len();
+        passes(
+            given == needed,
+            Refusal::PremisesMiscounted { given, needed },
+        )?;
         row.put_all(implied.right(), None);
         self.gather(step, left, row)
     }

@@ -10,7 +10,7 @@ ghost use Rattle.book.specs.Offers.{pred_call};
 ghost use Rattle.book.specs.Rows.{Keeps, RowIn};
 ghost use Rattle.book.specs.Views.{seen};
 
-use crate::checks::is_claimed;
+use crate::checks::{is_claimed, passes};
 use crate::clauses::Clause;
 use crate::rows::Row;
 use crate::state::Book;
@@ -41,11 +41,9 @@ impl Book {
         ensures { seen held result ≡ side_head (contents self.now) i v e.code side }
     {
         let head = self.premise(i, v, side.clause as usize, side.literal())?;
-        if self.reaches(e, side.role) {
-            Ok(head)
-        } else {
-            Err(Refusal::RoleNotReached { premise: i })
-        }
+        let reached = self.reaches(e, side.role);
+        passes(reached, Refusal::RoleNotReached { premise: i })?;
+        Ok(head)
     }
 
     // The concept that literal i of the far head brings back.
@@ -154,9 +152,6 @@ fn names_of_core(step: &PredStep) -> Short<u8, NAME_LIMIT>
 fn is_core(u: usize, concepts: &[u8], names: &[u8]) -> Result<(), Refusal>
     ensures { result ≡ same_core u concepts.now names.now }
 {
-    if is_within(concepts, names) && is_within(names, concepts) {
-        Ok(())
-    } else {
-        Err(Refusal::CoreDiffers { context: u })
-    }
+    let same = is_within(concepts, names) && is_within(names, concepts);
+    passes(same, Refusal::CoreDiffers { context: u })
 }

@@ -1,4 +1,4 @@
-use Rattle.std.proofs.Common.{◌≡◌, None, Option, rules, sym, ap, ◌∙◌, arith}
+use Rattle.std.proofs.Common.{◌≡◌, rules, sym, ◌∙◌, arith}
 use borrow.Author.Tests.{tests}
 use Rattle.std.specs.List.{position_from, zip}
 use Rattle.std.specs.Slice.Iter.{iter_rest}

@@ -1,9 +1,8 @@
-use Rattle.std.proofs.Common.{◌≡◌, ◌+◌, false, List, ◌∷◌, cond, drop, MatchOption, sym, refl, ap, ◌∙◌, rules}
+use Rattle.std.proofs.Common.{◌≡◌, ◌+◌, false, ◌∷◌, cond, drop, MatchOption, refl, ◌∙◌, rules}
 use Rattle.std.proofs.lemmas.Bool.{cond-false, cond-true}
 use Rattle.std.proofs.lemmas.List.{drop_all}
 use Rattle.terms.specs.Lists.{alike}
 use Rattle.terms.specs.Literals.{literal_precedes}
-use Rattle.terms.specs.declared.literals.Literal.{Literal}
 use Rattle.terms.proofs.Turns.{drop_read}
 use Rattle.book.specs.Rows.{Keeps, spared}
 use Rattle.book.proofs.Caps.{spared_none, spared_turn, way_end, way_other, way_put}

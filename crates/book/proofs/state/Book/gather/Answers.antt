@@ -1,4 +1,4 @@
-use Rattle.std.proofs.Common.{◌≡◌, ℕ, ◌+◌, List, [], ◌∷◌, ◌++◌, length, drop, Ok, Err, sym, ap, subst, ◌∙◌}
+use Rattle.std.proofs.Common.{◌≡◌, ℕ, length, drop, Ok, Err}
 use Rattle.std.proofs.lemmas.Iterator.{YieldsList-from_slice, YieldsList-from_zip}
 use Rattle.std.proofs.lemmas.Iterator.Consumers.{YieldsList-end, YieldsList-from_enumerate, YieldsList-turn}
 use Rattle.std.proofs.lemmas.List.{length_push}
@@ -9,7 +9,7 @@ use Rattle.calculus.specs.Register.{pairs}
 use Rattle.forms.specs.declared.ranges.Below.{Below}
 use Rattle.book.specs.Contents.{contents}
 use Rattle.book.specs.Offers.{premise_numbers}
-use Rattle.book.proofs.Gathers.{Gathering, gather_ends, gather_on, gather_stops}
+use Rattle.book.proofs.Gathers.{gather_ends, gather_on, gather_stops}
 use Rattle.book.proofs.Pairs.{pairs_end, pairs_turn}
 use Rattle.book.proofs.state.Book.gather.Goals as goal
 
