@@ -1,12 +1,7 @@
 -- A row kept in room that may be too small for it. Assumes nothing.
-use Rattle.std.proofs.Common.{◌≡◌, ℕ, zero, suc, ◌+◌, ◌<◌, ◌≤◌, Bool, true, false, cond, List, [], ◌∷◌, ◌++◌, length, take, drop, set, Some, None, Option, MatchOption, sym, refl, ap, ◌∙◌, arith}
-use Rattle.std.proofs.lemmas.List.{length-append, length-drop, length-set, length-take-le, take_all, take-append-le, take_more_set, take-take}
-use Rattle.std.proofs.lemmas.Bool.{cond-false}
-use Rattle.terms.specs.Lists.{alike, removal}
-use Rattle.terms.specs.Literals.{literal_precedes}
-use Rattle.terms.specs.declared.literals.Literal.{Literal}
+use Rattle.std.proofs.Common.{◌≡◌, ℕ, zero, suc, ◌≤◌, Bool, true, false, cond, List, [], ◌∷◌, ◌++◌, length, take, drop, sym, refl, ap, ◌∙◌, arith}
+use Rattle.std.proofs.lemmas.List.{length-append, length-drop, length-take-le, take_all, take-append-le, take-take}
 use Rattle.calculus.specs.Fronts.{placed, placed_all}
-use Rattle.book.specs.Rows.{spared}
 
 module _ {X : Type 0} (lt : X → X → Bool) where
   -- the first items of the row with x are drawn from x and the first items of the row
@@ -60,37 +55,6 @@ module _ {X : Type 0} (lt : X → X → Bool) where
           let all : n ≡ length memory = omega (arith, as_long) in
           keeps_on now n as_long (kept_now ∙ sym (take-append-le n front (last ∷ []) (omega (arith, long)) ∙ take_all n front (omega (arith, long))) ∙ ap (take n) e ∙ ap (λ (m : ℕ). take m (placed lt x (take n memory))) all)
 
-      -- where it is written after the others
-      pub keeps_more : n < length now → KeepsOn (set now n last) (n + 1)
-      keeps_more room =
-          let whole : take (n + 1) (set now n last) ≡ placed lt x (take n memory) = take_more_set now n last room ∙ ap (λ (l : List X). l ++ last ∷ []) kept_now ∙ e in
-          let short : length (placed lt x (take n memory)) ≡ n + 1 = omega (arith, long, ap length e, length-append front (last ∷ [])) in
-          keeps_on (set now n last) (n + 1) (length-set now n last ∙ as_long) (whole ∙ sym (take_all (length memory) _ (omega (arith, as_long))))
-
   -- the rest of xs, put into the row that is kept, is what all of xs puts into the row that was kept first
   abbrev pub OnTheWay : (Before Now : List X → Type 0) (rest all : List X) → Type 0
   OnTheWay Before Now rest all = (row : List X) → Before row → (now : List X) × Now now × (placed_all lt rest now ≡ placed_all lt all row)
-
-  module _ (Before Now : List X → Type 0) (us all : List X) (way : OnTheWay Before Now us all) where
-    pub way_put : (After : List X → Type 0) (x : X) (rest : List X) → us ≡ x ∷ rest → ((row : List X) → Now row → After (placed lt x row)) → OnTheWay Before After rest all
-    way_put After x rest e f row c =
-        let v = way row c in
-        (placed lt x v.0, f v.0 v.1, ap (λ l. placed_all lt l v.0) (sym e) ∙ v.2)
-
-    pub way_other : (rest : List X) → us ≡ rest → OnTheWay Before Now rest all
-    way_other rest e row c = let v = way row c in (v.0, v.1, ap (λ l. placed_all lt l v.0) (sym e) ∙ v.2)
-
-    pub way_end : us ≡ [] → (row : List X) → Before row → Now (placed_all lt all row)
-    way_end e row c =
-        let v = way row c in
-        let same : v.0 ≡ placed_all lt all row = ap (λ l. placed_all lt l v.0) (sym e) ∙ v.2 in
-        rw (← same) v.1
-
--- one literal of a list of which one may be to go: whether it goes is known by the test
-pub spared_turn : (gone : Option Literal) (x : Literal) (us rest : List Literal) (goes : Bool) → us ≡ x ∷ rest → MatchOption gone (goes ≡ false) (λ own. goes ≡ alike literal_precedes own x) → spared gone us ≡ cond goes (spared gone rest) (x ∷ spared gone rest)
-spared_turn None x us rest goes e h = e ∙ sym (cond-false goes _ _ h)
-spared_turn (Some own) x us rest goes e h = ap (removal literal_precedes own) e ∙ ap (λ (b : Bool). cond b (removal literal_precedes own rest) (x ∷ removal literal_precedes own rest)) (sym h)
-
-pub spared_none : (gone : Option Literal) (us : List Literal) → us ≡ [] → spared gone us ≡ []
-spared_none None us e = e
-spared_none (Some own) us e = ap (removal literal_precedes own) e

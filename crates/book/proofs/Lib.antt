@@ -5,4 +5,3 @@ pub mod Gathers
 pub mod Included
 pub mod Offered
 pub mod Pairs
-pub mod Places
