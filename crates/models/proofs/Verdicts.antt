@@ -1,6 +1,5 @@
 -- The turns of the judge through the sentences. Assumes nothing.
-use Rattle.std.proofs.Common.{◌≡◌, ℕ, ◌+◌, ◌<◌, ◌≤◌, List, map, length, get_or, drop, Some, None, Ok, Err, Option, sym, ap, ◌∙◌}
-use Rattle.std.proofs.lemmas.List.{drop_all}
+use Rattle.std.proofs.Common.{◌≡◌, ℕ, ◌+◌, ◌<◌, List, map, length, get_or, drop, Some, None, Err, Option, sym, ap, ◌∙◌}
 use Rattle.terms.proofs.Turns.{drop_read}
 use Rattle.terms.specs.declared.refusals.Refusal.TheVariants.{AxiomFails}
 use Rattle.models.specs.Judging.{first_failure, judged_from, judged_one}
@@ -17,6 +16,3 @@ module _ {X : Type 0} (m : Meaning) (f : X → Sentence) (xs : List X) (i : ℕ)
 
   pub holds_here : (x : X) → i < length xs → x ≡ get_or xs i x → None ≡ first_failure m (f x) → judged_from m (i + 1) (map f (drop (i + 1) xs)) ≡ judged_from m 0 (map f xs)
   holds_here x h is e = turn x None h is e
-
-  pub all_hold : length xs ≤ i → Ok tt ≡ judged_from m 0 (map f xs)
-  all_hold h = ap (λ l. judged_from m i (map f l)) (sym (drop_all i xs h)) ∙ so

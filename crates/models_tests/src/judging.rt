@@ -14,7 +14,7 @@ impl Sample for Denier {
     ghost meaning = { λ s. record { fault = None; size = s.0; has_element = λ _ _. false; has_link = λ _ _ _. false } };
 
     fn fault(&self) -> Option<Fault> {
-        if 1 <= self.0 && self.0 <= 64 {
+        if (1..=64).contains(&self.0) {
             None
         } else {
             Some(Fault::Misshapen {

@@ -1,5 +1,5 @@
 use Rattle.models.specs.Charts.{sentence_of}
-use Rattle.models.proofs.Verdicts.{all_hold, fails_here, holds_here}
+use Rattle.models.proofs.Verdicts.{fails_here, holds_here}
 use Rattle.models.proofs.judge.judge_axioms.Goals as goal
 
 pub returns-in-Some : goal.returns-in-Some
@@ -9,6 +9,3 @@ returns-in-Some g c =
 pub loop-i-preserved : goal.loop-i-preserved
 loop-i-preserved g c =
     holds_here (g.S.Sample.meaning c.args.sample.now) sentence_of c.args.axioms.now c.loop-i.i c.loop-i.invariant _ c.loop-i-test.true c.index-axioms-i.is c.in_default.ensures
-
-pub returns : goal.returns
-returns g c = all_hold (g.S.Sample.meaning c.args.sample.now) sentence_of c.args.axioms.now c.loop-i.i c.loop-i.invariant c.loop-i-test.false

@@ -1,15 +1,11 @@
-use Rattle.std.proofs.Common.{◌≡◌, ◌-◌, ◌≤◌, List, length, take, replicate, Err, subst, arith}
+use Rattle.std.proofs.Common.{◌≡◌, ◌≤◌, List, length, Err, arith}
 use Rattle.terms.specs.Lists.{union}
 use Rattle.terms.specs.Literals.{literal_precedes}
-use Rattle.terms.specs.Shorts.{held}
 use Rattle.terms.specs.Writing.{room_for}
 use Rattle.terms.specs.declared.literals.Literal.{Literal}
-use Rattle.terms.specs.declared.literals.Literal.TheVariants.{Concept}
 use Rattle.terms.specs.declared.refusals.Refusal.{Refusal}
 use Rattle.terms.proofs.Fronts.{room_err}
 use Rattle.terms.proofs.Sets.{union_length}
-use Rattle.tour.specs.Heads.{HeadOrRefusal}
-use Rattle.tour.proofs.Cuts.{cut_front}
 use Rattle.tour.proofs.heads.join_heads.Goals as goal
 
 -- the join of two heads is at most two heads long
@@ -18,9 +14,3 @@ both_fit xs ys d p q e = omega (arith, union_length literal_precedes xs ys, room
 
 pub returns-in_err-n : goal.returns-in_err-n
 returns-in_err-n c = absurd (both_fit _ _ _ c.as_slice.ensures.few c.as_slice-2.ensures.few c.in_err-n.ensures.answer)
-
-pub returns : goal.returns
-returns c =
-    let cut = cut_front _ (replicate 24 (Concept 0)) _ _ c.in_ok-n.ensures.answer c.in_ok-n.ensures.memory in
-    let whole : take (c.in_ok-n.n - 0) c.join.new.out ≡ union literal_precedes (held c.args.first.now) (held c.args.second.now) = cc in
-    subst (HeadOrRefusal c.head_of.result) whole c.head_of.ensures
