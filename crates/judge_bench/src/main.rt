@@ -75,11 +75,14 @@ fn missing(code: u8) -> Result<Literal, Refusal>
 }
 
 // Puts every element into the concepts 0 to 7, and has every role name link every element to every other; the other bytes stay.
-fn fill_table(bytes: &mut [u8; TABLE_BYTES])
+fn fill_table(bytes: &mut [u8])
     ensures { (i : ℕ) → i < length bytes.old → slice_index bytes.new i ≡ filled i (slice_index bytes.old i) }
 {
-    bytes[..LEFT_END].fill(255);
-    bytes[ROLES_BEGIN..].fill(255);
+    for (i, byte) in bytes.iter_mut().enumerate() {
+        if i < LEFT_END || i >= ROLES_BEGIN {
+            *byte = 255;
+        }
+    }
 }
 
 // How many runs the program's first argument asks for.
