@@ -1,4 +1,5 @@
 // The limits of a book and of the lists in its forms, each stated once.
+use models::axioms::SIDE_LIMIT;
 
 /// The most axioms of a book: concept axioms and inclusions together.
 pub const AXIOM_LIMIT: usize = 256;
@@ -12,5 +13,5 @@ pub const CLAUSE_LIMIT: usize = 512;
 /// The most literals of a head, and so of a claim.
 pub const HEAD_LIMIT: usize = 12;
 
-/// The most items of every other list in a form.
-pub const LIST_LIMIT: usize = 8;
+/// The most items of every other list in a form, as of the sides of an axiom.
+pub const LIST_LIMIT: usize = SIDE_LIMIT;

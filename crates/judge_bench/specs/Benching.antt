@@ -4,12 +4,8 @@ use Rattle.std.proofs.Common.{lit<}
 use Rattle.terms.specs.Limits.{role_codes}
 use Rattle.terms.specs.declared.literals.Literal.{Literal}
 use Rattle.terms.specs.declared.literals.Literal.TheVariants.{Exists, Forall}
-use Rattle.terms.specs.declared.roles.Role.{Role}
+use Rattle.terms.specs.Roles.{role_of}
 use Rattle.models.specs.Semantics.{Sentence, implies}
-
--- the role of a code
-abbrev pub role_of : (E : ℕ) → E < role_codes → Role
-role_of E below = record { code = E; ok = below }
 
 -- what has a filler of E in the concept 200, which has no element
 abbrev pub missing : (E : ℕ) → E < role_codes → Literal

@@ -6,11 +6,12 @@ ghost use Rattle.models.specs.Meanings.{element_in, linked};
 ghost use Rattle.models.specs.Tables.{is_shaped, lowest_stray, row, row_bit, table_meaning};
 
 use crate::samples::{ELEMENT_LIMIT, Fault, Sample, is_sample_size};
+use terms::literals::CONCEPTS;
 use terms::roles::ROLE_NAMES;
 use terms::weights::has_weight;
 
 // How many concepts there are, and so how many rows stand before those of the role names.
-const CONCEPT_ROWS: usize = 256;
+const CONCEPT_ROWS: usize = CONCEPTS as usize;
 
 const ROW_BYTES: usize = 8;
 

@@ -1,8 +1,13 @@
 -- Role codes: 2 × n is the role name n read forwards, 2 × n + 1 the same name read backwards. Assumes nothing.
-use Rattle.std.specs.Prelude.{◌≡◌, ℕ, ◌+◌, ◌-◌, ◌/◌, ◌%◌, ◌≤◌, Bool, cond, Result, MatchResult, ◌==◌}
+use Rattle.std.specs.Prelude.{◌≡◌, ℕ, ◌+◌, ◌-◌, ◌/◌, ◌%◌, ◌<◌, ◌≤◌, Bool, cond, Result, MatchResult, ◌==◌}
+use Rattle.terms.specs.Limits.{role_codes}
 use Rattle.terms.specs.declared.refusals.Refusal.{Refusal}
 use Rattle.terms.specs.declared.refusals.Refusal.TheVariants.{OutOfRange}
 use Rattle.terms.specs.declared.roles.Role.{Role}
+
+-- the role of a code
+abbrev pub role_of : (E : ℕ) → E < role_codes → Role
+role_of E below = record { code = E; ok = below }
 
 -- the role name of a code
 abbrev pub name_of : ℕ → ℕ

@@ -104,7 +104,7 @@ fn write<T: Copy, I: Iterator<Item = T>>(items: I, out: &mut [T])
     requires fits { length list ≤ length out.old }
     ensures { out.new ≡ list ++ drop (length list) out.old }
 {
-    // `enumerate` would have to be shown to count no further than a `usize` does.
+    // An index of `enumerate` would have to be shown to fit a `usize` for each iterator, and of slots in a `zip` it is not known what they hold afterwards.
     let mut n = 0;
     for item in items {
         out[n] = item;

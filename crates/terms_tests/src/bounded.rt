@@ -19,10 +19,7 @@ fn a_list_takes_as_many_as_it_holds(rt: HostRuntime) {
 // Whether a list of at most three items is made of these.
 fn makes(items: &[u8]) -> bool {
     let made: Option<Short<u8, 3>> = Short::from_slice(items, 0);
-    match made {
-        Some(list) => list.as_slice() == items,
-        None => false,
-    }
+    made.is_some_and(|list| list.as_slice() == items)
 }
 
 #[test]

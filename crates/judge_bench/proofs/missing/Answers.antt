@@ -1,7 +1,7 @@
 use Rattle.std.proofs.Common.{ap}
 use Rattle.terms.specs.Codes.{role_same}
 use Rattle.terms.specs.declared.literals.Literal.TheVariants.{Exists}
-use Rattle.judge_bench.specs.Benching.{role_of}
+use Rattle.terms.specs.Roles.{role_of}
 use Rattle.judge_bench.proofs.missing.Goals as goal
 
 pub returns : goal.returns

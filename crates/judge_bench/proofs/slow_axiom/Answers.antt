@@ -4,7 +4,8 @@ use Rattle.terms.specs.declared.literals.Literal.{Literal}
 use Rattle.terms.specs.declared.literals.Literal.TheVariants.{Forall}
 use Rattle.models.specs.Charts.{sides_refusal}
 use Rattle.models.specs.Semantics.{implies}
-use Rattle.judge_bench.specs.Benching.{missing, role_of}
+use Rattle.terms.specs.Roles.{role_of}
+use Rattle.judge_bench.specs.Benching.{missing}
 use Rattle.judge_bench.proofs.slow_axiom.Goals as goal
 
 -- seven literals that are those of the slow axiom

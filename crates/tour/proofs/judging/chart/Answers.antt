@@ -1,6 +1,6 @@
 use Rattle.std.proofs.Common.{lit<}
 use Rattle.terms.specs.Codes.{role_same}
-use Rattle.tour.specs.Chart.{role_of}
+use Rattle.terms.specs.Roles.{role_of}
 use Rattle.tour.proofs.judging.chart.Goals as goal
 
 pub returns : goal.returns
