@@ -64,10 +64,10 @@ fn push_in<T: Ordered>(row: &mut [T], x: T) -> Option<T>
     ensures { MatchOption result (row.new ≡ placed T.precedes x row.old) (λ last. row.new ++ last ∷ [] ≡ placed T.precedes x row.old) }
 {
     let mut carry = x;
-    for i in 0..row.len() {
-        let y = row[i];
+    for slot in row.iter_mut() {
+        let y = *slot;
         if carry.before(&y) {
-            row[i] = carry;
+            *slot = carry;
             carry = y;
         } else if !y.before(&carry) {
             return None;
@@ -80,9 +80,7 @@ fn push_in<T: Ordered>(row: &mut [T], x: T) -> Option<T>
 pub(crate) fn first_difference<T: Ordered>(xs: &[T], ys: &[T]) -> Option<usize>
     ensures { result ≡ first_apart T.precedes 0 xs.now ys.now }
 {
-    match xs.iter().zip(ys).position(|(x, y)| !x.same(y)) {
-        Some(i) => Some(i),
-        None if xs.len() == ys.len() => None,
-        None => Some(xs.len().min(ys.len())),
-    }
+    let apart = xs.iter().zip(ys).position(|(x, y)| !x.same(y));
+    let end = xs.len().min(ys.len());
+    apart.or((xs.len() != ys.len()).then_some(end))
 }

@@ -1,11 +1,6 @@
--- Rising lists kept in the front of lent memory, what is put into them, and where two lists first differ. Assumes nothing.
-use Rattle.std.specs.Prelude.{◌≡◌, ℕ, ◌+◌, ◌≤◌, Bool, cond, ◌⊎◌, List, [], ◌∷◌, length, take, Some, None, Option}
+-- What is put into a rising row, and where two lists first differ. Assumes nothing.
+use Rattle.std.specs.Prelude.{ℕ, ◌+◌, Bool, cond, List, [], ◌∷◌, Some, None, Option}
 use Rattle.terms.specs.Lists.{alike}
-
--- the first n items of `out` are `row`
-pub record Front {X : Type 0} (out : List X) (n : ℕ) (row : List X) : Type 0 where
-  pub fits : n ≤ length out
-  pub front : take n out ≡ row
 
 -- the row with x at its place, and as it was where x is in it
 abbrev pub placed : {X : Type 0} → (X → X → Bool) → X → List X → List X
@@ -23,8 +18,3 @@ first_apart lt i [] [] = None
 first_apart lt i [] (y ∷ ys) = Some i
 first_apart lt i (x ∷ xs) [] = Some i
 first_apart lt i (x ∷ xs) (y ∷ ys) = cond (alike lt x y) (first_apart lt (i + 1) xs ys) (Some i)
-
--- the first n items of `out` are `row`, or they fill `out` and the row is at least as long
-pub record Capped {X : Type 0} (out : List X) (n : ℕ) (row : List X) : Type 0 where
-  pub fits : n ≤ length out
-  pub so_far : (take n out ≡ row) ⊎ ((n ≡ length out) × (length out ≤ length row))

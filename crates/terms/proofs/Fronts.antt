@@ -54,9 +54,3 @@ module _ {X : Type 0} where
       go : (n < length row) ⊎ (length row ≤ n) → n < length row
       go (inl lt) = lt
       go (inr le) = let f = e ∙ cond-true _ _ _ (le-leb _ _ le) in let z : ◌≡◌ {A = ℕ} 0 1 = cc in absurd (omega arith)
-
-  -- what was written stands at the front
-  pub front_written : (row before after : List X) (k : ℕ) → Ok k ≡ room_for row (length before) → after ≡ written row before → take k after ≡ row
-  front_written row before after k e is =
-      let f = room_ok row (length before) k e in
-      ap (take k) (is ∙ cond-true _ _ _ (le-leb _ _ f.1)) ∙ take_at row (drop (length row) before) k (sym f.0)

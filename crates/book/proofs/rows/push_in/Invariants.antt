@@ -3,7 +3,7 @@ use Rattle.calculus.specs.Fronts.{placed}
 use Rattle.book.proofs.rows.push_in.Given as goal
 
 -- what is passed, and the rest of the row with what is carried, is the row with x
-abbrev pub invariant-loop-i : goal.invariant-loop-i
-invariant-loop-i g l =
+abbrev pub invariant-loop-slot : goal.invariant-loop-slot
+invariant-loop-slot g l =
     let lt = g.T.Ordered.precedes in
-    take l.i l.row ++ placed lt l.carry (drop l.i l.row) ≡ placed lt l.initial.carry l.initial.row
+    take l.slot-index l.row ++ placed lt l.carry (drop l.slot-index l.row) ≡ placed lt l.initial.carry l.initial.row
