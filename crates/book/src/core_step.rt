@@ -37,12 +37,11 @@ impl Book {
         ensures cleared { scratch.new ≡ replicate (length scratch.old) (Concept 0) }
     {
         let checked = self.check_core(step, scratch.len());
-        scratch.fill(Literal::Concept(0));
         let clause = Clause {
             context: step.context.number() as u8,
             head: alone(Literal::Concept(step.concept)),
         };
-        self.settle(checked, clause)
+        self.settle(checked, clause, scratch)
     }
 }
 

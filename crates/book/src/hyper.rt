@@ -76,11 +76,10 @@ impl Book {
         ensures cleared { scratch.new ≡ replicate (length scratch.old) (Concept 0) }
     {
         let checked = self.check_hyper(step, scratch);
-        scratch.fill(Literal::Concept(0));
         let clause = Clause {
             context: step.context.number() as u8,
             head: *step.claim.list(),
         };
-        self.settle(checked, clause)
+        self.settle(checked, clause, scratch)
     }
 }

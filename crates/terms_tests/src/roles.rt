@@ -10,8 +10,8 @@ fn outside() -> Result<Role, Refusal> {
 // The codes that code e reaches, among those below 8.
 fn reached(reach: &Reach, e: u8) -> Result<[bool; 8], Refusal> {
     let mut seen = [false; 8];
-    for s in 0..8u8 {
-        seen[s as usize] = reach.reaches(Role::new(e)?, Role::new(s)?);
+    for (s, is_reached) in (0..8u8).zip(seen.iter_mut()) {
+        *is_reached = reach.reaches(Role::new(e)?, Role::new(s)?);
     }
     Ok(seen)
 }
