@@ -88,6 +88,6 @@ impl Book {
         ensures change { contents self.new ≡ after (contents self.old) (open_context (held concepts.now.list)) }
     {
         self.be_closed()?;
-        enter(&mut self.contexts, *concepts.list())
+        enter(&mut self.contexts, Short::from(*concepts))
     }
 }

@@ -78,7 +78,7 @@ impl Book {
         let checked = self.check_hyper(step, scratch);
         let clause = Clause {
             context: step.context.number() as u8,
-            head: *step.claim.list(),
+            head: step.claim.into(),
         };
         self.settle(checked, clause, scratch)
     }

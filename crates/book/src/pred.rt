@@ -128,7 +128,7 @@ impl Book {
         let checked = self.check_pred(step, scratch);
         let clause = Clause {
             context: step.context.number() as u8,
-            head: *step.claim.list(),
+            head: step.claim.into(),
         };
         self.settle(checked, clause, scratch)
     }

@@ -36,18 +36,20 @@ impl<T: Numbered, const N: usize> Items<T, N> {
         Ok(Items { list })
     }
 
-    pub fn list(&self) -> &Short<T, N>
-        ensures { result.now ≡ self.now.list }
-    {
-        &self.list
-    }
-
     pub fn as_slice(&self) -> &[T]
         ensures value { result.now ≡ held self.now.list }
         ensures few { length result.now ≤ N }
         ensures stated { listable T.refused T.follows N (map T.numbers result.now) ≡ true }
     {
         self.list.as_slice()
+    }
+}
+
+impl<T: Numbered, const N: usize> From<Items<T, N>> for Short<T, N> {
+    ghost from_gives = { λ items list. list ≡ items.list };
+
+    fn from(stated: Items<T, N>) -> Short<T, N> {
+        stated.list
     }
 }
 
