@@ -1,5 +1,5 @@
 // Lists of a form, made of numbers.
-ghost use Rattle.std.specs.Prelude.{◌≡◌, ◌≤◌, length, map, true, None};
+ghost use Rattle.std.specs.Prelude.{◌≡◌, ◌≤◌, [], length, map, true, None};
 ghost use Rattle.std.specs.Option.{option_map};
 ghost use Rattle.terms.specs.Shorts.{held};
 ghost use Rattle.forms.specs.Items.{MadeOrRefused, items_refusal, listable, may_stand};
@@ -26,16 +26,27 @@ impl<T: Numbered, const N: usize> Clone for Items<T, N> {
     }
 }
 
-impl<T: Numbered, const N: usize> Items<T, N> {
+impl<T: Numbered + Default, const N: usize> Items<T, N> {
     /// The list that these numbers state. As in a line, an item is refused as too many (4) before its numbers are looked at (2), and these before it
     /// is compared with the item before it (3).
     pub fn new(stated: &[T::Numbers]) -> Result<Items<T, N>, Refusal>
         ensures { MadeOrRefused (λ items. map T.numbers (held items.list)) (items_refusal T.refused T.follows N None) stated.now result }
     {
-        let list = list_of(stated)?;
+        let list = list_of(stated, T::default())?;
         Ok(Items { list })
     }
 
+    /// The empty list.
+    pub fn none() -> Items<T, N>
+        ensures { held result.list ≡ [] }
+    {
+        Items {
+            list: Short::new(T::default()),
+        }
+    }
+}
+
+impl<T: Numbered, const N: usize> Items<T, N> {
     pub fn as_slice(&self) -> &[T]
         ensures value { result.now ≡ held self.now.list }
         ensures few { length result.now ≤ N }
@@ -60,11 +71,15 @@ fn may_stand<T: Numbered>(last: Option<T>, item: T) -> bool
     last.is_none_or(|before| item.may_follow(&before))
 }
 
-// The list that these numbers state.
-fn list_of<T: Numbered, const N: usize>(stated: &[T::Numbers]) -> Result<Short<T, N>, Refusal>
+/// The list that these numbers state, of at most N items. As in a line, an item is refused as too many (4) before its numbers are looked at (2), and
+/// these before it is compared with the item before it (3).
+pub fn list_of<T: Numbered, const N: usize>(
+    stated: &[T::Numbers],
+    filler: T,
+) -> Result<Short<T, N>, Refusal>
     ensures { MadeOrRefused (λ s. map T.numbers (held s)) (items_refusal T.refused T.follows N None) stated.now result }
 {
-    let mut list = Short::new(T::filler());
+    let mut list = Short::new(filler);
     for number in stated {
         if list.len() == N {
             return Err(Refusal::TooLong { at: 0 });

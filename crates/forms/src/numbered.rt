@@ -9,9 +9,6 @@ use terms::Refusal;
 pub trait Numbered: Copy {
     type Numbers: Copy;
 
-    // the numbers of the item that stands where a list has none
-    ghost zero: { Self.Numbers };
-
     // the numbers that state the item
     ghost numbers: { Self → Self.Numbers };
 
@@ -20,10 +17,6 @@ pub trait Numbered: Copy {
 
     // whether an item that the second numbers state may stand right after one that the first state
     ghost follows: { Self.Numbers → Self.Numbers → Bool };
-
-    /// The item for places of a list that hold nothing.
-    fn filler() -> Self
-        ensures { numbers result ≡ zero };
 
     /// The item that these numbers state, each of which is to be in its range (2).
     fn from_numbers(stated: Self::Numbers) -> Result<Self, Refusal>

@@ -3,7 +3,6 @@ ghost use Rattle.std.specs.Prelude.{◌≡◌, nat_lt};
 ghost use Rattle.terms.specs.Limits.{concepts, role_codes};
 ghost use Rattle.forms.specs.Items.{MadeOrRefused, range_refusal};
 ghost use Rattle.forms.specs.Numbers.{literal_numbers, literal_refused, numbers_precede};
-ghost use Rattle.forms.specs.declared.numbers.LiteralNumbers.TheVariants as stated;
 
 use crate::numbered::Numbered;
 use crate::numbers::LiteralNumbers;
@@ -25,17 +24,11 @@ pub(crate) fn role_of(code: u32) -> Result<Role, Refusal>
 impl Numbered for u8 {
     type Numbers = u32;
 
-    ghost zero = { 0 };
-
     ghost numbers = { λ A. A };
 
     ghost refused = { range_refusal concepts };
 
     ghost follows = { nat_lt };
-
-    fn filler() -> u8 {
-        0
-    }
 
     // u8's own TryFrom answers with an error that is no refusal.
     fn from_numbers(stated: u32) -> Result<u8, Refusal> {
@@ -50,17 +43,11 @@ impl Numbered for u8 {
 impl Numbered for Literal {
     type Numbers = LiteralNumbers;
 
-    ghost zero = { stated.Concept 0 };
-
     ghost numbers = { literal_numbers };
 
     ghost refused = { literal_refused };
 
     ghost follows = { numbers_precede };
-
-    fn filler() -> Literal {
-        Literal::Concept(0)
-    }
 
     fn from_numbers(stated: LiteralNumbers) -> Result<Literal, Refusal> {
         match stated {

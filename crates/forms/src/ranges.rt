@@ -51,20 +51,22 @@ impl<const LIMIT: usize> Below<LIMIT> {
     }
 }
 
+impl Default for ClauseNumber {
+    ghost is_default = { λ n. n.number ≡ 0 };
+
+    fn default() -> ClauseNumber {
+        Below { number: 0 }
+    }
+}
+
 impl Numbered for ClauseNumber {
     type Numbers = u32;
-
-    ghost zero = { 0 };
 
     ghost numbers = { λ n. n.number };
 
     ghost refused = { range_refusal clause_limit };
 
     ghost follows = { λ _ _. true };
-
-    fn filler() -> ClauseNumber {
-        Below { number: 0 }
-    }
 
     fn from_numbers(stated: u32) -> Result<ClauseNumber, Refusal> {
         Below::new(stated)

@@ -4,7 +4,7 @@ use terms::Role;
 pub mod methods;
 
 /// A side of a pred step: the clause that it names is to have `all role concept`.
-#[derive(Clone, Copy)]
+#[derive(Clone, Copy, Default)]
 pub struct Side {
     pub clause: u16,
     pub role: Role,

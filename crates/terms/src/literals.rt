@@ -3,6 +3,7 @@ ghost use Rattle.std.specs.Prelude.{◌≡◌, ◌<◌, nat_lt};
 ghost use Rattle.terms.specs.Limits.{literal_positions};
 ghost use Rattle.terms.specs.Literals.{InRange, literal_precedes, position};
 ghost use Rattle.terms.specs.declared.literals.Literal.{Literal};
+ghost use Rattle.terms.specs.declared.literals.Literal.TheVariants.{Concept};
 ghost use Rattle.terms.specs.Positions.{literal_order};
 
 use crate::order::Ordered;
@@ -51,6 +52,14 @@ impl Ordered for Literal {
         ensures by_position { result ≡ nat_lt (position self.now) (position other.now) }
     {
         self.position() < other.position()
+    }
+}
+
+impl Default for Literal {
+    ghost is_default = { λ literal. literal ≡ Concept 0 };
+
+    fn default() -> Literal {
+        Literal::Concept(0)
     }
 }
 

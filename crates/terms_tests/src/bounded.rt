@@ -1,5 +1,5 @@
 // Bounded lists, and refusals as they are reported.
-use terms::{Refusal, Short};
+use terms::{Full, Refusal, Short};
 
 #[test]
 fn a_list_takes_as_many_as_it_holds(rt: HostRuntime) {
@@ -14,6 +14,15 @@ fn a_list_takes_as_many_as_it_holds(rt: HostRuntime) {
     assert_eq!(rt; list.get(1), Some(5));
     assert_eq!(rt; list.get(2), None);
     assert_eq!(rt; list.as_slice(), [7u8, 5].as_slice());
+}
+
+#[test]
+fn a_full_list_names_its_limit(rt: HostRuntime) {
+    let mut list: Short<u8, 1> = Short::new(0);
+    assert_eq!(rt; list.push(7), Ok(()));
+    assert_eq!(rt; list.push(5), Err(Full { limit: 1 }));
+    assert_eq!(rt; Refusal::from(Full { limit: 1 }).number(), 7);
+    assert_eq!(rt; Refusal::from(Full { limit: 1 }).values(), (1, 0));
 }
 
 // Whether a list of at most three items is made of these.

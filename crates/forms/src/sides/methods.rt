@@ -7,7 +7,7 @@ use crate::numbered::Numbered;
 use crate::numbering::role_of;
 use crate::numbers::SideNumbers;
 use crate::ranges::ClauseNumber;
-use terms::{Literal, Refusal, Role};
+use terms::{Literal, Refusal};
 
 impl Side {
     /// The literal that the clause is to have.
@@ -21,21 +21,11 @@ impl Side {
 impl Numbered for Side {
     type Numbers = SideNumbers;
 
-    ghost zero = { record { clause = 0; role = 0; concept = 0 } };
-
     ghost numbers = { side_numbers };
 
     ghost refused = { side_refused };
 
     ghost follows = { λ _ _. true };
-
-    fn filler() -> Side {
-        Side {
-            clause: 0,
-            role: Role::default(),
-            concept: 0,
-        }
-    }
 
     fn from_numbers(stated: SideNumbers) -> Result<Side, Refusal> {
         let clause = ClauseNumber::new(stated.clause)?.number() as u16;
