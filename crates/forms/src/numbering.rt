@@ -6,19 +6,13 @@ ghost use Rattle.forms.specs.Numbers.{literal_numbers, literal_refused, numbers_
 
 use crate::numbered::Numbered;
 use crate::numbers::LiteralNumbers;
-use crate::ranges::Below;
-use terms::roles::ROLE_CODES;
 use terms::{Literal, Ordered, Refusal, Role};
-
-// How many role codes there are.
-const ROLES: usize = ROLE_CODES as usize;
 
 /// The role of a code, below 64.
 pub(crate) fn role_of(code: u32) -> Result<Role, Refusal>
     ensures { MadeOrRefused (λ role. role.code) (range_refusal role_codes) code result }
 {
-    let code = Below::<ROLES>::new(code)?;
-    Role::new(code.number() as u8)
+    Role::new(u8::from_numbers(code)?)
 }
 
 impl Numbered for u8 {

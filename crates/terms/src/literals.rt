@@ -13,8 +13,11 @@ use std::fmt;
 /// How many concepts there are, and so how many literals of one kind and one role.
 pub const CONCEPTS: u32 = 256;
 
+/// The most literals of a head.
+pub const HEAD_LIMIT: usize = 12;
+
 // Where the literals `some E A` and `all E A` begin.
-const FIRST_EXISTS: u32 = 256;
+const FIRST_EXISTS: u32 = CONCEPTS;
 
 const FIRST_FORALL: u32 = 16_640;
 

@@ -2,10 +2,12 @@
 ghost use Rattle.std.specs.Prelude.{◌≡◌, length};
 ghost use Rattle.terms.specs.Limits.{role_codes};
 
+use crate::roles::ROLE_CODES;
+
 pub mod methods;
 
 // One row for each role code, with one weight for each.
-const ROWS: usize = 64;
+const ROWS: usize = ROLE_CODES as usize;
 
 /// What each role code reaches by the inclusions entered so far, kept closed as they are entered.
 #[derive(Clone, Copy)]

@@ -6,10 +6,8 @@ ghost use Rattle.terms.specs.Shorts.{held};
 ghost use Rattle.tour.specs.Heads.{HeadOrRefusal};
 
 use terms::lists::{join, without};
+use terms::literals::HEAD_LIMIT;
 use terms::{Literal, Refusal, Short};
-
-/// The most literals that a head has.
-pub const HEAD_LIMIT: usize = 12;
 
 /// A rising list of literals.
 pub type Head = Short<Literal, HEAD_LIMIT>;
