@@ -5,7 +5,24 @@ use terms::lists::{has, is_equal, is_rising, is_within, join, without};
 
 const MEMORY: usize = 8;
 
-// The join of xs and ys in memory for `room` items: the answer, and all the memory afterwards.
+// What a call that writes to memory for `room` items answers, and all the memory afterwards.
+fn writes<F: FnOnce(&mut [u8]) -> Result<usize, Refusal>>(
+    rt: &impl Abort,
+    write: F,
+    room: usize,
+    answer: Result<usize, Refusal>,
+    after: [u8; 8],
+)
+    requires { F.IsAlwaysCallable write }
+{
+    let mut out = [99u8; MEMORY];
+    assert!(rt; room <= MEMORY);
+    let got = write(&mut out[..room]);
+    assert_eq!(rt; got, answer);
+    assert_eq!(rt; out, after);
+}
+
+// The same of the join of xs and ys.
 fn joins(
     rt: &impl Abort,
     xs: &[u8],
@@ -14,14 +31,10 @@ fn joins(
     answer: Result<usize, Refusal>,
     after: [u8; 8],
 ) {
-    let mut out = [99u8; MEMORY];
-    assert!(rt; room <= MEMORY);
-    let got = join(xs, ys, &mut out[0..room]);
-    assert_eq!(rt; got, answer);
-    assert_eq!(rt; out, after);
+    writes(rt, |out| join(xs, ys, out), room, answer, after)
 }
 
-// The list xs without x in memory for `room` items: the answer, and all the memory afterwards.
+// The same of the list xs without x.
 fn leaves(
     rt: &impl Abort,
     xs: &[u8],
@@ -30,11 +43,7 @@ fn leaves(
     answer: Result<usize, Refusal>,
     after: [u8; 8],
 ) {
-    let mut out = [99u8; MEMORY];
-    assert!(rt; room <= MEMORY);
-    let got = without(xs, &x, &mut out[0..room]);
-    assert_eq!(rt; got, answer);
-    assert_eq!(rt; out, after);
+    writes(rt, |out| without(xs, &x, out), room, answer, after)
 }
 
 fn too_short(needed: usize) -> Result<usize, Refusal> {
