@@ -27,8 +27,7 @@ impl<T: Numbered, const N: usize> Clone for Items<T, N> {
 }
 
 impl<T: Numbered + Default, const N: usize> Items<T, N> {
-    /// The list that these numbers state. As in a line, an item is refused as too many (4) before its numbers are looked at (2), and these before it
-    /// is compared with the item before it (3).
+    /// The list that these numbers state, or the refusal of `list_of`.
     pub fn new(stated: &[T::Numbers]) -> Result<Items<T, N>, Refusal>
         ensures { MadeOrRefused (λ items. map T.numbers (held items.list)) (items_refusal T.refused T.follows N None) stated.now result }
     {

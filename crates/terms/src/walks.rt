@@ -1,9 +1,8 @@
 // Lists that are worked out item by item, and writing them to lent memory.
 ghost use Rattle.std.specs.Prelude.{◌≡◌, ◌^◌, ◌<◌, ◌≤◌, List, ◌++◌, length, drop};
-ghost use Rattle.std.specs.Iterator.{IsFinite, YieldsFirst, item_count};
-ghost use Rattle.std.proofs.lemmas.Iterator.{YieldsList};
+ghost use Rattle.std.specs.Iterator.{YieldsFirst, item_count};
 ghost use Rattle.terms.specs.Lists.{removal, union};
-ghost use Rattle.terms.specs.Writing.{nameable, room_for, written};
+ghost use Rattle.terms.specs.Writing.{Gives, nameable, room_for, written};
 ghost use Rattle.terms.specs.declared.refusals.Refusal.TheVariants.{MemoryTooShort};
 
 use crate::order::Ordered;
@@ -82,9 +81,7 @@ fn too_short(needed: u128) -> Refusal
 // How many items there are.
 fn count<T: Copy, I: Iterator<Item = T>>(items: I) -> u128
     ghost list: { List T }
-    requires yields { YieldsList I.next_gives (λ x. x) items list }
-    requires can { I.can_next items }
-    requires ends { IsFinite (I.remaining items) }
+    requires gives { Gives I.can_next I.next_gives I.remaining items list }
     requires fits { length list < 2 ^ 128 }
     ensures { result ≡ length list }
 {
@@ -98,9 +95,7 @@ fn count<T: Copy, I: Iterator<Item = T>>(items: I) -> u128
 // Writes the items to the front of `out`.
 fn write<T: Copy, I: Iterator<Item = T>>(items: I, out: &mut [T])
     ghost list: { List T }
-    requires yields { YieldsList I.next_gives (λ x. x) items list }
-    requires can { I.can_next items }
-    requires ends { IsFinite (I.remaining items) }
+    requires gives { Gives I.can_next I.next_gives I.remaining items list }
     requires fits { length list ≤ length out.old }
     ensures { out.new ≡ list ++ drop (length list) out.old }
 {
@@ -118,9 +113,7 @@ pub(crate) fn write_out<T: Copy, I: Iterator<Item = T> + Copy>(
     out: &mut [T],
 ) -> Result<usize, Refusal>
     ghost list: { List T }
-    requires yields { YieldsList I.next_gives (λ x. x) items list }
-    requires can { I.can_next items }
-    requires ends { IsFinite (I.remaining items) }
+    requires gives { Gives I.can_next I.next_gives I.remaining items list }
     requires countable { length list < 2 ^ 128 }
     ensures answer { result ≡ room_for list (length out.old) }
     ensures memory { out.new ≡ written list out.old }

@@ -8,7 +8,7 @@ pub write_out-requires : goal.write_out-requires
 write_out-requires g c =
     let lt = g.T.Ordered.precedes in
     let few : length (union lt c.args.xs.now c.args.ys.now) < 2 ^ 128 = omega (arith, union_length lt c.args.xs.now c.args.ys.now) in
-    λ k h. (search rules, (search rules, (YieldsList-from_first _ _ _ refl, (tt, (tt, few)))))
+    λ k h. (search rules, (search rules, ((YieldsList-from_first _ _ _ refl, tt, tt), few)))
 
 pub returns-clause-means : goal.returns-clause-means
 returns-clause-means g c = union_means g.T.Ordered.precedes g.met.T.Ordered.order _ _

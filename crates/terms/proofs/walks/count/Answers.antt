@@ -8,9 +8,9 @@ loop-init g c = search rules
 
 pub overflow_add-n : goal.overflow_add-n
 overflow_add-n g c =
-    let e = YieldsList-at c.into_iter-iterator.ensures.into_iter_gives c.requires.1.1.0 in
+    let e = YieldsList-at c.into_iter-iterator.ensures.into_iter_gives c.requires.1.1.0.0 in
     let t = YieldsList-turn e c.loop.yielded c.loop.iterator' c.loop.yielded_by c.next.result c.next.new.self c.in-Some.field-0 c.in-Some.is c.next.ensures.steps in
-    omega (arith, t.0, c.requires.1.1.1.1.1, c.loop.invariant.2)
+    omega (arith, t.0, c.requires.1.1.1, c.loop.invariant.2)
 
 pub loop-preserved : goal.loop-preserved
 loop-preserved g c =
@@ -20,5 +20,5 @@ loop-preserved g c =
 
 pub returns : goal.returns
 returns g c =
-    let e = YieldsList-at c.into_iter-iterator.ensures.into_iter_gives c.requires.1.1.0 in
+    let e = YieldsList-at c.into_iter-iterator.ensures.into_iter_gives c.requires.1.1.0.0 in
     c.loop.invariant.2 ∙ (YieldsList-end e c.loop.yielded c.loop.iterator' c.loop.yielded_by c.next.result c.next.new.self c.in-None.is c.next.ensures.steps).1

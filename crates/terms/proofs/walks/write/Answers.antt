@@ -14,28 +14,28 @@ loop-item-init g c = (search rules, search rules, search rules, part_start _ _)
 
 pub bounds-out-n : goal.bounds-out-n
 bounds-out-n g c =
-    let e = YieldsList-at c.into_iter-item-iterator.ensures.into_iter_gives c.requires.1.1.0 in
+    let e = YieldsList-at c.into_iter-item-iterator.ensures.into_iter_gives c.requires.1.1.0.0 in
     let t = YieldsList-turn e c.loop-item.yielded c.loop-item.item-iterator c.loop-item.yielded_by c.next.result c.next.new.self c.in-Some.item c.in-Some.is c.next.ensures.steps in
-    omega (arith, t.0, c.requires.1.1.1.1.1, c.loop-item.invariant.2, c.loop-item.auto.out)
+    omega (arith, t.0, c.requires.1.1.1, c.loop-item.invariant.2, c.loop-item.auto.out)
 
 pub overflow_add-n : goal.overflow_add-n
 overflow_add-n g c =
-    let e = YieldsList-at c.into_iter-item-iterator.ensures.into_iter_gives c.requires.1.1.0 in
+    let e = YieldsList-at c.into_iter-item-iterator.ensures.into_iter_gives c.requires.1.1.0.0 in
     let t = YieldsList-turn e c.loop-item.yielded c.loop-item.item-iterator c.loop-item.yielded_by c.next.result c.next.new.self c.in-Some.item c.in-Some.is c.next.ensures.steps in
-    omega (arith, t.0, c.requires.1.1.1.1.1, c.loop-item.invariant.2, c.loop-item.auto.out)
+    omega (arith, t.0, c.requires.1.1.1, c.loop-item.invariant.2, c.loop-item.auto.out)
 
 pub loop-item-preserved : goal.loop-item-preserved
 loop-item-preserved g c =
-    let e = YieldsList-at c.into_iter-item-iterator.ensures.into_iter_gives c.requires.1.1.0 in
+    let e = YieldsList-at c.into_iter-item-iterator.ensures.into_iter_gives c.requires.1.1.0.0 in
     let t = YieldsList-turn e c.loop-item.yielded c.loop-item.item-iterator c.loop-item.yielded_by c.next.result c.next.new.self c.in-Some.item c.in-Some.is c.next.ensures.steps in
     let next = next_is g.list (length c.loop-item.yielded) c.loop-item.n c.in-Some.item c.loop-item.invariant.2 t in
-    let room : c.loop-item.n < length c.loop-item.out = omega (arith, next.0, c.requires.1.1.1.1.1, c.loop-item.auto.out) in
+    let room : c.loop-item.n < length c.loop-item.out = omega (arith, next.0, c.requires.1.1.1, c.loop-item.auto.out) in
     let more : length (c.loop-item.yielded ++ c.in-Some.item ∷ []) ≡ length c.loop-item.yielded + 1 = length-append c.loop-item.yielded (c.in-Some.item ∷ []) in
     let on = c.in-Some.ensures.goes.on c.loop-item.invariant.1 in
     (on.0, on.1, omega (arith, more, c.loop-item.invariant.2), part_write _ _ _ _ _ _ room (part_other _ _ _ _ _ _ next.1 c.loop-item.invariant.3))
 
 pub returns : goal.returns
 returns g c =
-    let e = YieldsList-at c.into_iter-item-iterator.ensures.into_iter_gives c.requires.1.1.0 in
+    let e = YieldsList-at c.into_iter-item-iterator.ensures.into_iter_gives c.requires.1.1.0.0 in
     let all = (YieldsList-end e c.loop-item.yielded c.loop-item.item-iterator c.loop-item.yielded_by c.next.result c.next.new.self c.in-None.is c.next.ensures.steps).1 in
     part_memory _ _ _ _ (part_other _ _ _ _ _ _ (drop_all _ g.list (omega (arith, all, c.loop-item.invariant.2))) c.loop-item.invariant.3)
