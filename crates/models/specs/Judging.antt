@@ -1,6 +1,7 @@
 -- How a sample is judged, as a computation over its meaning. That it agrees with the semantics is proved, and stands on `judge` and
 -- `lowest_contradiction`. Assumes nothing.
-use Rattle.std.specs.Prelude.{ℕ, ◌+◌, Bool, true, false, cond, not, ◌&&◌, List, [], ◌∷◌, Some, None, Ok, Err, Option, Result}
+use Rattle.std.specs.Prelude.{◌≡◌, ℕ, ◌+◌, Bool, true, false, cond, not, ◌&&◌, List, [], ◌∷◌, Some, None, Ok, Err, Option, Result}
+use Rattle.std.specs.Fn.{AnyResult, Shared}
 use Rattle.std.specs.List.{find, list_all, list_any, range_with_len}
 use Rattle.terms.specs.Roles.{backwards, name_of}
 use Rattle.terms.specs.declared.literals.Literal.{Literal}
@@ -18,6 +19,14 @@ lowest p n = find p (range_with_len 0 n)
 -- (x, y) is a pair of the role code E
 abbrev pub pair_test : Meaning → ℕ → ℕ → ℕ → Bool
 pair_test m E x y = cond (backwards E) (linked m (name_of E) y x) (linked m (name_of E) x y)
+
+-- some pair (x, y) of E has a y that passes
+abbrev pub has_pair : Meaning → ℕ → ℕ → (ℕ → Bool) → Bool
+has_pair m E x test = list_any (λ y. pair_test m E x y && test y) (range_with_len 0 m.size)
+
+-- a call of f at a number answers what `test` gives
+abbrev pub Computes : {F : Type 0} → Shared F (ℕ × Unit {0}) Bool → F → (ℕ → Bool) → Type 0
+Computes g f test = (y : ℕ) → AnyResult g f (y, tt) (λ r. r ≡ test y)
 
 -- (x, y) is a pair of E, and y is in A, or where `wanted` is false, not in A
 abbrev pub filler_at : Meaning → ℕ → ℕ → Bool → ℕ → ℕ → Bool

@@ -1,8 +1,8 @@
 // Whether a sample of any kind satisfies axioms, and where it contradicts a subsumption.
-ghost use Rattle.std.specs.Prelude.{◌≡◌, ℕ, map, is_ok, None, Err, Decides, MatchOption};
+ghost use Rattle.std.specs.Prelude.{◌≡◌, ℕ, Bool, map, is_ok, None, Err, Decides, MatchOption};
 ghost use Rattle.terms.specs.declared.refusals.Refusal.TheVariants.{AxiomFails};
 ghost use Rattle.models.specs.Charts.{sentence_of};
-ghost use Rattle.models.specs.Judging.{all_test, any_test, contradiction, contradicts_test, fails_test, filler_at, filler_test, first_failure, judged_from, literal_test, missing_at, missing_test, pair_test, some_test, verdict};
+ghost use Rattle.models.specs.Judging.{Computes, all_test, any_test, contradiction, contradicts_test, fails_test, first_failure, has_pair, judged_from, literal_test, pair_test, some_test, verdict};
 ghost use Rattle.models.specs.Meanings.{fault_of, interpretation};
 ghost use Rattle.models.specs.Semantics.{Contradicts, LowestContradiction, LowestFailure, Models};
 
@@ -21,32 +21,12 @@ fn is_pair<S: Sample>(sample: &S, e: Role, x: u8, y: u8) -> bool
     }
 }
 
-// Whether (x, y) is a pair of the role with y in the concept, or, where `wanted` is false, not in it.
-fn is_filler<S: Sample>(sample: &S, e: Role, a: u8, wanted: bool, x: u8, y: u8) -> bool
-    ensures { result ≡ filler_at (S.meaning sample.now) e.code a wanted x y }
+// Whether some pair (x, y) of the role has a y that passes.
+fn some_pair<S: Sample, F: Fn(u8) -> bool>(sample: &S, e: Role, x: u8, test: F) -> bool
+    requires { F.IsAlwaysCallable test }
+    ensures { (h : ℕ → Bool) → Computes F.Fn test h → result ≡ has_pair (S.meaning sample.now) e.code x h }
 {
-    is_pair(sample, e, x, y) && sample.is_in(a, y) == wanted
-}
-
-// Whether some pair (x, y) of the role has y in the concept, or, where `wanted` is false, not in it.
-fn has_filler<S: Sample>(sample: &S, e: Role, a: u8, wanted: bool, x: u8) -> bool
-    ensures { result ≡ filler_test (S.meaning sample.now) e.code a wanted x }
-{
-    (0..sample.size()).any(|y| is_filler(sample, e, a, wanted, x, y))
-}
-
-// Whether (x, y) is a pair of e and not of s.
-fn is_missing<S: Sample>(sample: &S, e: Role, s: Role, x: u8, y: u8) -> bool
-    ensures { result ≡ missing_at (S.meaning sample.now) e.code s.code x y }
-{
-    is_pair(sample, e, x, y) && !is_pair(sample, s, x, y)
-}
-
-// Whether some pair (x, y) of e is not a pair of s.
-fn misses_pair<S: Sample>(sample: &S, e: Role, s: Role, x: u8) -> bool
-    ensures { result ≡ missing_test (S.meaning sample.now) e.code s.code x }
-{
-    (0..sample.size()).any(|y| is_missing(sample, e, s, x, y))
+    (0..sample.size()).any(|y| is_pair(sample, e, x, y) && test(y))
 }
 
 // Whether x is in the literal.
@@ -55,8 +35,8 @@ fn is_in_literal<S: Sample>(sample: &S, x: u8, literal: Literal) -> bool
 {
     match literal {
         Literal::Concept(a) => sample.is_in(a, x),
-        Literal::Exists(e, a) => has_filler(sample, e, a, true, x),
-        Literal::Forall(e, a) => !has_filler(sample, e, a, false, x),
+        Literal::Exists(e, a) => some_pair(sample, e, x, |y| sample.is_in(a, y)),
+        Literal::Forall(e, a) => !some_pair(sample, e, x, |y| !sample.is_in(a, y)),
     }
 }
 
@@ -90,7 +70,7 @@ fn fails_at<S: Sample>(sample: &S, axiom: Axiom, x: u8) -> bool
     match axiom {
         Axiom::Implies(sides) => is_in_all(sample, x, sides.left())
             && !is_in_some(sample, x, sides.right()),
-        Axiom::Under(e, s) => misses_pair(sample, e, s, x),
+        Axiom::Under(e, s) => some_pair(sample, e, x, |y| !is_pair(sample, s, x, y)),
     }
 }
 
