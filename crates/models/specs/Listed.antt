@@ -1,10 +1,10 @@
 -- What a list of entries holds: each place of the memory that was lent, how many places are taken, and the size of the sample. Assumes nothing.
-use Rattle.std.specs.Prelude.{ℕ, ◌+◌, min, Bool, cond, ◌&&◌, List, length, take, Some, None, Ok, Err, Option, Result, nat_le, nat_lt, slice_set}
+use Rattle.std.specs.Prelude.{ℕ, ◌+◌, min, Bool, cond, List, length, take, Some, None, Ok, Err, Option, Result, nat_lt, slice_set}
 use Rattle.std.specs.List.{list_any}
 use Rattle.terms.specs.declared.refusals.Refusal.{Refusal}
 use Rattle.terms.specs.declared.refusals.Refusal.TheVariants.{ElementOutside, NoPlaceFree, SampleMisshapen}
 use Rattle.models.specs.Facts.{fact_same}
-use Rattle.models.specs.Meanings.{Meaning}
+use Rattle.models.specs.Meanings.{Meaning, is_sample_size}
 use Rattle.models.specs.declared.entries.Entry.{Entry}
 use Rattle.models.specs.declared.facts.Fact.{Fact}
 use Rattle.models.specs.declared.facts.Fact.TheVariants.{In, Link}
@@ -39,7 +39,7 @@ changed_unless (Some e) after before = before
 -- ---- starting again
 
 abbrev pub start_refusal : ℕ → Option Refusal
-start_refusal n = cond (nat_le 1 n && nat_le n 64) None (Some (SampleMisshapen n))
+start_refusal n = cond (is_sample_size n) None (Some (SampleMisshapen n))
 
 -- counting from none again
 abbrev pub started : Kept → ℕ → Kept

@@ -1,6 +1,6 @@
 -- What a sample means: its fault if it has one, its size, and its facts as tests. A fact counts only between elements of the
 -- domain, which are 0 to the size less 1. Assumes nothing.
-use Rattle.std.specs.Prelude.{◌≡◌, ℕ, max, Bool, true, cond, ◌&&◌, Some, Option, nat_le, nat_lt}
+use Rattle.std.specs.Prelude.{◌≡◌, ℕ, max, Bool, true, cond, ◌&&◌, None, Some, Option, nat_le, nat_lt}
 use Rattle.std.proofs.Common.{arith}
 use Rattle.std.proofs.lemmas.Bool.{and_parts, lt-ltb, ltb-true}
 use Rattle.terms.specs.declared.refusals.Refusal.{Refusal}
@@ -20,9 +20,17 @@ abbrev pub refusal_of : Fault → Refusal
 refusal_of (Misshapen size) = SampleMisshapen size
 refusal_of (Outside row) = ElementOutside row
 
--- a sample has from 1 to 64 elements, or a fault that says so
+-- a sample has from 1 to 64 elements
+abbrev pub is_sample_size : ℕ → Bool
+is_sample_size n = nat_le 1 n && nat_le n 64
+
+-- the fault of a size
+abbrev pub fault_of_size : ℕ → Option Fault
+fault_of_size n = cond (is_sample_size n) None (Some (Misshapen n))
+
+-- a sample of another size has the fault that says so
 abbrev pub fault_of : Meaning → Option Fault
-fault_of m = cond (nat_le 1 m.size && nat_le m.size 64) m.fault (Some (Misshapen m.size))
+fault_of m = cond (is_sample_size m.size) m.fault (Some (Misshapen m.size))
 
 -- x is in the concept A
 abbrev pub element_in : Meaning → ℕ → ℕ → Bool

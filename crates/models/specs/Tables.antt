@@ -1,10 +1,10 @@
 -- What a table of bits means: row A holds the elements of the concept A, and row 256 + r × n + x those to which the role name r links x.
-use Rattle.std.specs.Prelude.{ℕ, ◌+◌, ◌-◌, ◌*◌, ◌/◌, ◌%◌, ◌^◌, Bool, cond, ◌&&◌, leb, List, length, take, drop, Some, Option, ◌==◌, nat_le, nat_lt, slice_index}
+use Rattle.std.specs.Prelude.{ℕ, ◌+◌, ◌-◌, ◌*◌, ◌/◌, ◌%◌, ◌^◌, Bool, cond, ◌&&◌, leb, List, length, take, drop, Some, Option, ◌==◌, nat_lt, slice_index}
 use Rattle.std.specs.Option.{option_map}
 use Rattle.std.specs.Int.Digits.{number_from_digits}
 use Rattle.terms.specs.Tables.{weight}
 use Rattle.models.specs.Judging.{lowest}
-use Rattle.models.specs.Meanings.{Meaning}
+use Rattle.models.specs.Meanings.{Meaning, is_sample_size}
 use Rattle.models.specs.declared.samples.Fault.TheVariants.{Misshapen, Outside}
 
 -- row k is the number that its eight bytes write, the highest byte first
@@ -13,7 +13,7 @@ row bytes k = number_from_digits 256 (take 8 (drop (8 * k) bytes))
 
 -- as many bytes as the size asks for, and a size from 1 to 64
 abbrev pub is_shaped : List ℕ → ℕ → Bool
-is_shaped bytes n = nat_le 1 n && nat_le n 64 && length bytes == 8 * (256 + 32 * n)
+is_shaped bytes n = is_sample_size n && length bytes == 8 * (256 + 32 * n)
 
 -- the lowest row with a weight from 2 ^ n up, which stands for no element
 abbrev pub lowest_stray : List ℕ → ℕ → Option ℕ

@@ -1,18 +1,11 @@
 // Samples: finite interpretations that can be asked.
-ghost use Rattle.std.specs.Prelude.{◌≡◌, ◌&&◌, nat_le};
-ghost use Rattle.models.specs.Meanings.{Meaning, element_in, fault_of, linked, refusal_of};
+ghost use Rattle.std.specs.Prelude.{◌≡◌};
+ghost use Rattle.models.specs.Meanings.{Meaning, element_in, fault_of, fault_of_size, linked, refusal_of};
 
 use terms::Refusal;
 
 /// The most elements that a sample has: 0 to 63.
 pub const ELEMENT_LIMIT: u8 = 64;
-
-// Whether a sample may have n elements.
-pub(crate) fn is_sample_size(n: u8) -> bool
-    ensures { result ≡ (nat_le 1 n && nat_le n 64) }
-{
-    (1..=ELEMENT_LIMIT).contains(&n)
-}
 
 /// What keeps a sample from being judged.
 #[derive(Clone, Copy, Debug, PartialEq, Eq)]
@@ -21,6 +14,17 @@ pub enum Fault {
     Misshapen { size: usize },
     /// This row of a table names an element that is not in the sample.
     Outside { row: usize },
+}
+
+/// The fault of a sample with n elements that it has for its size alone: it is to have 1 to 64.
+pub fn size_fault(n: u8) -> Option<Fault>
+    ensures { result ≡ fault_of_size n }
+{
+    if (1..=ELEMENT_LIMIT).contains(&n) {
+        None
+    } else {
+        Some(Fault::Misshapen { size: n as usize })
+    }
 }
 
 /// A fault gets the refusal 19 or 20.

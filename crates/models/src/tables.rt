@@ -5,7 +5,7 @@ ghost use Rattle.terms.specs.Tables.{weight};
 ghost use Rattle.models.specs.Meanings.{element_in, linked};
 ghost use Rattle.models.specs.Tables.{is_shaped, lowest_stray, row, row_bit, table_meaning};
 
-use crate::samples::{ELEMENT_LIMIT, Fault, Sample, is_sample_size};
+use crate::samples::{ELEMENT_LIMIT, Fault, Sample, size_fault};
 use terms::literals::CONCEPTS;
 use terms::roles::ROLE_NAMES;
 use terms::weights::has_weight;
@@ -67,7 +67,7 @@ impl<'a> Table<'a> {
     fn has_shape(&self) -> bool
         ensures { result ≡ is_shaped self.now.bytes.now self.now.size }
     {
-        is_sample_size(self.size) && self.bytes.len() == ROW_BYTES * row_count(self.size)
+        size_fault(self.size).is_none() && self.bytes.len() == ROW_BYTES * row_count(self.size)
     }
 
     // The lowest row that names an element outside the sample.

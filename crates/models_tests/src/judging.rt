@@ -3,6 +3,7 @@ ghost use Rattle.std.specs.Prelude.{false, None};
 
 use crate::telling::{element, link, made, told};
 use models::judge::{judge, lowest_contradiction};
+use models::samples::size_fault;
 use models::{Axiom, ConceptAxiom, Entry, Fault, List, Sample};
 use std::test::Fail;
 use terms::{Literal, Refusal, Role};
@@ -14,13 +15,7 @@ impl Sample for Denier {
     ghost meaning = { λ s. record { fault = None; size = s.0; has_element = λ _ _. false; has_link = λ _ _ _. false } };
 
     fn fault(&self) -> Option<Fault> {
-        if (1..=64).contains(&self.0) {
-            None
-        } else {
-            Some(Fault::Misshapen {
-                size: self.0 as usize,
-            })
-        }
+        size_fault(self.0)
     }
 
     fn size(&self) -> u8 {

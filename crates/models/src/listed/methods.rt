@@ -6,7 +6,7 @@ ghost use Rattle.models.specs.Meanings.{element_in, linked};
 use super::List;
 use crate::entries::Entry;
 use crate::facts::Fact;
-use crate::samples::{Fault, Sample, is_sample_size};
+use crate::samples::{Fault, Sample, size_fault};
 use terms::Refusal;
 
 /// The most entries that a list holds.
@@ -49,8 +49,8 @@ impl<'a> List<'a> {
         ensures change { contents self.new ≡ changed_unless (start_refusal n) (started (contents self.old) n) (contents self.old) }
         ensures lent { self.new.entries.ghost_name ≡ self.old.entries.ghost_name }
     {
-        if !is_sample_size(n) {
-            return Err(Refusal::SampleMisshapen { size: n as usize });
+        if let Some(fault) = size_fault(n) {
+            return Err(fault.into());
         }
         self.count = 0;
         self.size = n;
@@ -87,13 +87,7 @@ impl Sample for List<'_> {
     ghost meaning = { λ l. list_meaning (contents l) };
 
     fn fault(&self) -> Option<Fault> {
-        if is_sample_size(self.size) {
-            None
-        } else {
-            Some(Fault::Misshapen {
-                size: self.size as usize,
-            })
-        }
+        size_fault(self.size)
     }
 
     fn size(&self) -> u8 {

@@ -1,4 +1,4 @@
-use Rattle.std.proofs.Common.{◌≡◌, not, ap, sym, ◌∙◌, rules, tests}
+use Rattle.std.proofs.Common.{not, ap, sym, ◌∙◌, rules, tests}
 use Rattle.models.specs.Charts.{sentence_of}
 use Rattle.models.specs.Judging.{fails_test, pair_test}
 use Rattle.models.proofs.judge.fails_at.Goals as goal

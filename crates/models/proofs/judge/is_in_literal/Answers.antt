@@ -1,4 +1,4 @@
-use Rattle.std.proofs.Common.{◌≡◌, ℕ, not, ap, sym, ◌∙◌, rules, tests}
+use Rattle.std.proofs.Common.{not, ap, sym, ◌∙◌, rules, tests}
 use Rattle.models.specs.Judging.{literal_test}
 use Rattle.models.specs.Meanings.{element_in}
 use Rattle.models.proofs.judge.is_in_literal.Goals as goal

@@ -1,8 +1,7 @@
-use Rattle.std.proofs.Common.{◌≡◌, ℕ, Bool, ◌&&◌, rules, tests}
-use Rattle.std.specs.List.{list_any, range_with_len}
+use Rattle.std.proofs.Common.{◌&&◌, rules, tests}
 use Rattle.std.proofs.lemmas.Iterator.{YieldsList-from_range}
 use Rattle.std.proofs.lemmas.Iterator.Search.{any_from_yields_List}
-use Rattle.models.specs.Judging.{has_pair, pair_test}
+use Rattle.models.specs.Judging.{pair_test}
 use Rattle.models.proofs.judge.some_pair.Goals as goal
 
 pub returns : goal.returns
