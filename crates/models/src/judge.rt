@@ -87,10 +87,10 @@ pub fn judge<S: Sample>(axioms: &[Axiom], sample: &S) -> Result<(), Refusal>
     ensures passes { fault_of (S.meaning sample.now) ≡ None → Decides (is_ok result) (Models (interpretation (S.meaning sample.now)) (map sentence_of axioms.now)) }
     ensures fails { (i x : ℕ) → fault_of (S.meaning sample.now) ≡ None → result ≡ Err (AxiomFails i x) → LowestFailure (interpretation (S.meaning sample.now)) (map sentence_of axioms.now) i x }
 {
-    match sample.fault() {
-        Some(fault) => Err(fault.into()),
-        None => judge_axioms(axioms, sample),
+    if let Some(fault) = sample.fault() {
+        return Err(fault.into());
     }
+    judge_axioms(axioms, sample)
 }
 
 // The lowest axiom that fails in the sample, and the lowest element at which it does.
