@@ -1,8 +1,9 @@
 -- What a list of entries holds: each place of the memory that was lent, how many places are taken, and the size of the sample. Assumes nothing.
-use Rattle.std.specs.Prelude.{ℕ, ◌+◌, min, Bool, cond, List, length, take, Some, None, Ok, Err, Option, Result, nat_lt, slice_set}
+use Rattle.std.specs.Prelude.{ℕ, ◌+◌, min, Bool, cond, List, [], ◌∷◌, length, take, Some, None, Ok, Err, Option, Result, nat_lt, slice_set}
 use Rattle.std.specs.List.{list_any}
 use Rattle.terms.specs.declared.refusals.Refusal.{Refusal}
 use Rattle.terms.specs.declared.refusals.Refusal.TheVariants.{ElementOutside, NoPlaceFree, SampleMisshapen}
+use Rattle.models.specs.Charts.{first_refusal}
 use Rattle.models.specs.Facts.{fact_same}
 use Rattle.models.specs.Meanings.{Meaning, is_sample_size}
 use Rattle.models.specs.declared.entries.Entry.{Entry}
@@ -63,6 +64,18 @@ add_refusal k e = place_refusal k (outside k.size e.fact)
 -- only the place after the last entry is written
 abbrev pub added : Kept → Entry → Kept
 added k e = record { memory = slice_set k.memory k.count e; count = k.count + 1; size = k.size }
+
+-- ---- adding entries one by one
+
+-- the first refusal, if an entry is refused
+abbrev pub fill_refusal : Kept → List Entry → Option Refusal
+fill_refusal k [] = None
+fill_refusal k (e ∷ rest) = first_refusal (add_refusal k e) (fill_refusal (added k e) rest)
+
+-- the list afterwards: the entries before the first that is refused are added
+abbrev pub filled : Kept → List Entry → Kept
+filled k [] = k
+filled k (e ∷ rest) = changed_unless (add_refusal k e) (filled (added k e) rest) k
 
 -- ---- what the list means
 

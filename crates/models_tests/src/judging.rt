@@ -52,9 +52,7 @@ fn verdict_on(axioms: &[Axiom], n: u8, entries: &[Entry]) -> Result<(u8, usize, 
     let mut memory = [element(0, 0)?; 8];
     let mut list = List::new(&mut memory[..]);
     list.start(n)?;
-    for entry in entries {
-        list.add(*entry)?;
-    }
+    list.add_all(entries)?;
     Ok(told(judge(axioms, &list)))
 }
 
@@ -170,10 +168,12 @@ fn the_lowest_contradiction(rt: HostRuntime) -> Result<(), Fail> {
     let mut memory = [element(0, 0)?; 8];
     let mut list = List::new(&mut memory[..]);
     list.start(3)?;
-    list.add(element(1, 0)?)?;
-    list.add(element(2, 0)?)?;
-    list.add(element(1, 1)?)?;
-    list.add(element(1, 2)?)?;
+    list.add_all(&[
+        element(1, 0)?,
+        element(2, 0)?,
+        element(1, 1)?,
+        element(1, 2)?,
+    ])?;
     assert_eq!(rt; lowest_contradiction(&[1], &[2], &list), Some(1));
     assert_eq!(rt; lowest_contradiction(&[1], &[1], &list), None);
     assert_eq!(rt; lowest_contradiction(&[1, 2], &[3], &list), Some(0));

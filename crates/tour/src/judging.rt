@@ -3,10 +3,8 @@ ghost use Rattle.std.specs.Prelude.{◌≡◌, false, map, MatchResult};
 ghost use Rattle.terms.specs.declared.refusals.Refusal.TheVariants.{OutOfRange};
 ghost use Rattle.models.specs.Charts.{sentence_of};
 ghost use Rattle.models.specs.Facts.{fact_in_range};
-ghost use Rattle.models.specs.Listed.{contents, unless_refused};
 ghost use Rattle.models.specs.declared.facts.Fact.TheVariants.{In, Link};
 ghost use Rattle.tour.specs.Chart.{tour_chart};
-ghost use Rattle.tour.specs.Filling.{fill_refusal, filled};
 
 use models::judge::{judge, lowest_contradiction};
 use models::{Axiom, ConceptAxiom, Entry, Fact, List};
@@ -55,24 +53,12 @@ pub fn show_samples(rt: &impl Print) -> anyhow::Result<()> {
     show_sample(rt, &rich)
 }
 
-// Adds the entries to the list one by one, up to the first that is refused.
-fn add_all(list: &mut List<'_>, entries: &[Entry]) -> Result<(), Refusal>
-    ensures answer { result ≡ unless_refused (fill_refusal (contents list.old) entries.now) }
-    ensures change { contents list.new ≡ filled (contents list.old) entries.now }
-    ensures lent { list.new.entries.ghost_name ≡ list.old.entries.ghost_name }
-{
-    for item in entries {
-        list.add(*item)?;
-    }
-    Ok(())
-}
-
 // Prints the verdict on the sample of two elements with these entries, and where it contradicts two subsumptions.
 fn show_sample(rt: &impl Print, entries: &[Entry]) -> anyhow::Result<()> {
     let mut memory = [element(0, 0)?; MEMORY];
     let mut list = List::new(&mut memory[..]);
     list.start(2)?;
-    add_all(&mut list, entries)?;
+    list.add_all(entries)?;
     match judge(&chart()?, &list) {
         Ok(_) => println!(rt; "  verdict: every axiom holds")?,
         Err(Refusal::AxiomFails { axiom, element }) => println!(rt;

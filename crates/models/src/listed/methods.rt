@@ -1,6 +1,6 @@
 ghost use Rattle.std.specs.Prelude.{◌≡◌, ◌<◌, map, Decides};
 ghost use Rattle.terms.specs.Lists.{◌∈◌};
-ghost use Rattle.models.specs.Listed.{add_refusal, added, changed_unless, contents, empty, fact_of, held_entries, list_meaning, outside, says, start_refusal, started, unless_refused};
+ghost use Rattle.models.specs.Listed.{add_refusal, added, changed_unless, contents, empty, fact_of, fill_refusal, filled, held_entries, list_meaning, outside, says, start_refusal, started, unless_refused};
 ghost use Rattle.models.specs.Meanings.{element_in, linked};
 
 use super::List;
@@ -72,6 +72,18 @@ impl<'a> List<'a> {
         }
         self.entries[self.count] = entry;
         self.count += 1;
+        Ok(())
+    }
+
+    /// Adds the entries one by one, up to the first that is refused.
+    pub fn add_all(&mut self, entries: &[Entry]) -> Result<(), Refusal>
+        ensures answer { result ≡ unless_refused (fill_refusal (contents self.old) entries.now) }
+        ensures change { contents self.new ≡ filled (contents self.old) entries.now }
+        ensures lent { self.new.entries.ghost_name ≡ self.old.entries.ghost_name }
+    {
+        for item in entries {
+            self.add(*item)?;
+        }
         Ok(())
     }
 

@@ -4,10 +4,9 @@ use Rattle.std.proofs.lemmas.Result.{err_from_is_err_and}
 use Rattle.terms.specs.declared.refusals.Refusal.{Refusal}
 use Rattle.terms.proofs.Turns.{drop_read}
 use Rattle.models.specs.Charts.{first_refusal}
-use Rattle.models.specs.Listed.{Kept, add_refusal, added, changed_unless, contents, unless_refused}
+use Rattle.models.specs.Listed.{Kept, add_refusal, added, changed_unless, contents, fill_refusal, filled, unless_refused}
 use Rattle.models.specs.declared.entries.Entry.{Entry}
-use Rattle.tour.specs.Filling.{fill_refusal, filled}
-use Rattle.tour.proofs.judging.add_all.Goals as goal
+use Rattle.models.proofs.listed.List.add_all.Goals as goal
 
 -- what an answer says of the refusal that it comes from
 none_refused : (o : Option Refusal) (u : Unit {0}) → Ok u ≡ unless_refused o → o ≡ None
@@ -54,7 +53,7 @@ loop-item-preserved c =
 
 pub returns : goal.returns
 returns c =
-    let k = contents c.loop-item.list in
+    let k = contents c.loop-item.self in
     let none = drop_all c.loop-item.item-index c.args.entries.now (omega arith) in
     record {
       answer = ap unless_refused (sym (ap (fill_refusal k) none) ∙ c.loop-item.invariant.0);
