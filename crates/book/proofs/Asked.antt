@@ -3,6 +3,7 @@ use Rattle.std.proofs.Common.{◌≡◌, ℕ, ◌+◌, Bool, false, cond, ◌||�
 use Rattle.std.specs.List.{position_from}
 use Rattle.terms.specs.Lists.{alike, member}
 use Rattle.terms.specs.Literals.{literal_precedes}
+use Rattle.terms.specs.declared.literals.Literal.{Literal}
 use Rattle.terms.specs.declared.literals.Literal.TheVariants.{Concept, Exists, Forall}
 use Rattle.terms.specs.declared.roles.Role.{Role}
 use Rattle.calculus.specs.Register.{Register}
@@ -14,13 +15,18 @@ pub concept_among : (a : ℕ) (ms : List ℕ) → member ltb a ms ≡ member lit
 concept_among a [] = refl
 concept_among a (m ∷ ms) = ap (λ (b : Bool). alike ltb a m || b) (concept_among a ms)
 
-pub exists_not_among : (E : Role) (a : ℕ) (ms : List ℕ) → false ≡ member literal_precedes (Exists E a) (map Concept ms)
+exists_not_among : (E : Role) (a : ℕ) (ms : List ℕ) → false ≡ member literal_precedes (Exists E a) (map Concept ms)
 exists_not_among E a [] = refl
 exists_not_among E a (m ∷ ms) = exists_not_among E a ms
 
-pub forall_not_among : (E : Role) (a : ℕ) (ms : List ℕ) → false ≡ member literal_precedes (Forall E a) (map Concept ms)
+forall_not_among : (E : Role) (a : ℕ) (ms : List ℕ) → false ≡ member literal_precedes (Forall E a) (map Concept ms)
 forall_not_among E a [] = refl
 forall_not_among E a (m ∷ ms) = forall_not_among E a ms
+
+pub others_not_among : (l : Literal) (ms : List ℕ) → ((a : ℕ) → l ≡ Concept a → ⊥) → false ≡ member literal_precedes l (map Concept ms)
+others_not_among (Concept a) ms other = absurd (other a refl)
+others_not_among (Exists E a) ms other = exists_not_among E a ms
+others_not_among (Forall E a) ms other = forall_not_among E a ms
 
 pub lowest_position : (R : Register) (K M : List ℕ) (i : ℕ) (cs : List Clause) → position_from (λ c. covering R K M (clause_of c)) i cs ≡ lowest_clause R K M i (map clause_of cs)
 lowest_position R K M i [] = refl

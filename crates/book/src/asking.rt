@@ -21,10 +21,7 @@ use terms::{Literal, Refusal};
 fn is_concept_of(literal: Literal, concepts: &[u8]) -> bool
     ensures { result ≡ member literal_precedes literal (map Concept concepts.now) }
 {
-    match literal {
-        Literal::Concept(a) => has(concepts, &a),
-        Literal::Exists(_, _) | Literal::Forall(_, _) => false,
-    }
+    matches!(literal, Literal::Concept(a) if has(concepts, &a))
 }
 
 // Whether each literal is one of these concepts.

@@ -109,8 +109,5 @@ pub(crate) fn is_claimed(row: &[Literal], claim: &[Literal]) -> Result<(), Refus
 {
     let long = Refusal::HeadTooLong { limit: HEAD_LIMIT };
     passes(row.len() <= HEAD_LIMIT, long)?;
-    match first_difference(row, claim) {
-        None => Ok(()),
-        Some(index) => Err(Refusal::ClaimDiffers { index }),
-    }
+    first_difference(row, claim).map_or(Ok(()), |index| Err(Refusal::ClaimDiffers { index }))
 }

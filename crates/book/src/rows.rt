@@ -5,6 +5,7 @@ ghost use Rattle.terms.specs.Literals.{literal_precedes};
 ghost use Rattle.forms.specs.Limits.{head_limit};
 ghost use Rattle.calculus.specs.Fronts.{first_apart, placed, placed_all};
 
+use std::mem::swap;
 use terms::{Literal, Ordered};
 
 // A row of literals in lent memory that is longer than any head: the first `len` literals are those that the row keeps.
@@ -65,11 +66,9 @@ fn push_in<T: Ordered>(row: &mut [T], x: T) -> Option<T>
 {
     let mut carry = x;
     for slot in row.iter_mut() {
-        let y = *slot;
-        if carry.before(&y) {
-            *slot = carry;
-            carry = y;
-        } else if !y.before(&carry) {
+        if carry.before(slot) {
+            swap(slot, &mut carry);
+        } else if !slot.before(&carry) {
             return None;
         }
     }
