@@ -3,7 +3,7 @@ ghost use Rattle.std.specs.Prelude.{◌≡◌};
 ghost use Rattle.std.specs.List.{slice_get};
 ghost use Rattle.terms.specs.Shorts.{held};
 ghost use Rattle.terms.specs.declared.refusals.Refusal.TheVariants.{ClauseNotEntered, NoConceptAxiom};
-ghost use Rattle.calculus.specs.Checks.{claimed, core_of, passes, premise_head, ready, required, sides_of};
+ghost use Rattle.calculus.specs.Checks.{and_then, claimed, core_of, passes, premise_head, ready, required, sides_of};
 ghost use Rattle.book.specs.Contents.{clause_of, contents};
 ghost use Rattle.book.specs.Views.{both_sides, seen};
 
@@ -51,6 +51,18 @@ impl Book {
         ensures { seen held result ≡ core_of (contents self.now) v }
     {
         self.core_or(v, Refusal::ContextNotOpened { context: v })
+    }
+
+    // The core of the context v, for a step that can be looked at.
+    pub(crate) fn ready_core(
+        &self,
+        v: usize,
+        scratch: usize,
+    ) -> Result<Short<u8, LIST_LIMIT>, Refusal>
+        ensures { seen held result ≡ and_then (ready (contents self.now) scratch) (λ _. core_of (contents self.now) v) }
+    {
+        self.ready(scratch)?;
+        self.core_of(v)
     }
 
     // Axiom number x, which is to be a concept axiom.

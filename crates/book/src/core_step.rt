@@ -19,9 +19,8 @@ impl Book {
     fn check_core(&self, step: &CoreStep, scratch: usize) -> Result<(), Refusal>
         ensures { result ≡ check (contents self.now) (core_call step.now scratch) }
     {
-        self.ready(scratch)?;
         let v = step.context.index();
-        let concepts = self.core_of(v)?;
+        let concepts = self.ready_core(v, scratch)?;
         let within = has(concepts.as_slice(), &step.concept);
         passes(within, Refusal::CoreDiffers { context: v })
     }

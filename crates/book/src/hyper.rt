@@ -57,8 +57,7 @@ impl Book {
     fn check_hyper(&self, step: &HyperStep, scratch: &mut [Literal]) -> Result<(), Refusal>
         ensures { result ≡ check (contents self.now) (hyper_call step.now (length scratch.old)) }
     {
-        self.ready(scratch.len())?;
-        self.core_of(step.context.index())?;
+        self.ready_core(step.context.index(), scratch.len())?;
         let implied = self.concept_axiom(step.axiom.index())?;
         let mut row = Row::new(scratch);
         self.hyper_row(step, &implied, &mut row)?;

@@ -105,8 +105,7 @@ impl Book {
     fn check_pred(&self, step: &PredStep, scratch: &mut [Literal]) -> Result<(), Refusal>
         ensures { result ≡ check (contents self.now) (pred_call step.now (length scratch.old)) }
     {
-        self.ready(scratch.len())?;
-        self.core_of(step.context.index())?;
+        self.ready_core(step.context.index(), scratch.len())?;
         let mut row = Row::new(scratch);
         self.near_row(step, &mut row)?;
         let sides = step.sides.as_slice().len();
