@@ -15,13 +15,13 @@ use crate::clauses::Clause;
 use crate::rows::Row;
 use crate::state::Book;
 use calculus::Answer;
-use forms::limits::HEAD_LIMIT;
+use forms::limits::{HEAD_LIMIT, LIST_LIMIT};
 use forms::{PredStep, Side};
 use terms::lists::is_within;
 use terms::{Literal, Refusal, Role, Short};
 
 // The most concepts that a pred step names: its own, and one for each side.
-const NAME_LIMIT: usize = 9;
+const NAME_LIMIT: usize = LIST_LIMIT + 1;
 
 impl Book {
     fn reaches(&self, e: Role, s: Role) -> bool
@@ -34,14 +34,14 @@ impl Book {
     fn side_head(
         &self,
         i: usize,
-        v: usize,
-        e: Role,
+        step: &PredStep,
         side: Side,
     ) -> Result<Short<Literal, HEAD_LIMIT>, Refusal>
-        ensures { seen held result ≡ side_head (contents self.now) i v e.code side }
+        ensures { seen held result ≡ side_head (contents self.now) i step.now.context.number step.now.role.code side }
     {
+        let v = step.context.index();
         let head = self.premise(i, v, side.clause as usize, side.literal())?;
-        let reached = self.reaches(e, side.role);
+        let reached = self.reaches(step.role, side.role);
         passes(reached, Refusal::RoleNotReached { premise: i })?;
         Ok(head)
     }
@@ -60,10 +60,9 @@ impl Book {
     fn gather_sides(&self, step: &PredStep, row: &mut Row<'_>) -> Result<(), Refusal>
         ensures { (start : List Literal) → Keeps row.old start → RowIn row.new result (walked (side_test (contents self.now) step.now.context.number step.now.role.code) side_brings 0 (held step.now.sides.list) start) }
     {
-        let v = step.context.index();
         let sides = step.sides.as_slice();
         for (i, side) in sides.iter().enumerate() {
-            let head = self.side_head(i + 1, v, step.role, *side)?;
+            let head = self.side_head(i + 1, step, *side)?;
             row.put_all(head.as_slice(), Some(side.literal()));
         }
         Ok(())

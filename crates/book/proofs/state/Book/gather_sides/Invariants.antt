@@ -6,4 +6,4 @@ use Rattle.book.proofs.state.Book.gather_sides.Given as goal
 
 abbrev pub invariant-loop-i : goal.invariant-loop-i
 invariant-loop-i l =
-    Gathering (side_test (contents l.self) l.v l.step.role.code) side_brings l.sides l.initial.row l.row l.i (drop l.i l.sides)
+    Gathering (side_test (contents l.self) l.step.context.number l.step.role.code) side_brings l.sides l.initial.row l.row l.i (drop l.i l.sides)
