@@ -1,5 +1,5 @@
 -- The call that a form makes on a book, and what the memory lent to it then holds. Assumes nothing.
-use Rattle.std.specs.Prelude.{ℕ, List, map, length, replicate}
+use Rattle.std.specs.Prelude.{◌≡◌, ℕ, List, map, length, replicate, Ok}
 use Rattle.terms.specs.Shorts.{held}
 use Rattle.terms.specs.declared.literals.Literal.{Literal}
 use Rattle.terms.specs.declared.literals.Literal.TheVariants.{Concept}
@@ -10,7 +10,11 @@ use Rattle.forms.specs.declared.steps.CoreStep.{CoreStep}
 use Rattle.forms.specs.declared.steps.HyperStep.{HyperStep}
 use Rattle.forms.specs.declared.steps.PredStep.{PredStep}
 use Rattle.forms.specs.declared.steps.Subsumption.{Subsumption}
-use Rattle.calculus.specs.Events.{Event, ask, close, core, enter_axiom, enter_inclusion, hyper, open_context, pred, refute}
+use Rattle.calculus.specs.Events.{Event, ask, close, core, enter_axiom, enter_inclusion, hyper, open_context, pred, refute, grown, with_clause}
+use Rattle.calculus.specs.Register.{Register}
+use Rattle.calculus.specs.Replies.{granted}
+use Rattle.calculus.specs.declared.answers.Answer.TheVariants.{Entered}
+use Rattle.book.specs.declared.clauses.Clause.{Clause}
 
 -- the calls of steps, with scratch of this length, and of questions, with a sample that means m
 abbrev pub core_call : CoreStep → ℕ → Event
@@ -30,6 +34,10 @@ ask_call s = ask (held s.left.list) (held s.right.list)
 
 abbrev pub refute_call : Subsumption → Meaning → Event
 refute_call s m = refute (held s.left.list) (held s.right.list) m
+
+-- whatever the register and the scratch, the call that passes is told the next number, and enters this clause
+abbrev pub EntersClause : (ℕ → Event) → Clause → Type 0
+EntersClause call c = (R : Register) (scratch : ℕ) → (granted R (call scratch) ≡ Ok (Entered (length R.clauses))) × (grown R (call scratch) ≡ with_clause R c.context (held c.head))
 
 -- the call of a form, with scratch of this length and a sample that means m
 abbrev pub call_of : Form → ℕ → Meaning → Event

@@ -2,6 +2,7 @@
 ghost use Rattle.std.specs.Prelude.{◌≡◌};
 ghost use Rattle.terms.specs.Shorts.{held};
 
+use forms::ContextNumber;
 use forms::limits::HEAD_LIMIT;
 use terms::{Literal, Short};
 
@@ -20,6 +21,17 @@ pub struct Clause {
 }
 
 impl Clause {
+    // The clause of this context with this head.
+    pub(crate) fn new(context: ContextNumber, head: Short<Literal, HEAD_LIMIT>) -> Clause
+        ensures context { result.context ≡ context.number }
+        ensures head { result.head ≡ head }
+    {
+        Clause {
+            context: context.number() as u8,
+            head,
+        }
+    }
+
     /// The number of the context.
     pub fn context(&self) -> u8
         ensures { result ≡ self.now.context }

@@ -1,19 +1,17 @@
 // The hyper step: from an axiom, and a premise for each of its left concepts.
-ghost use Rattle.std.specs.Prelude.{◌≡◌, List, [], length, replicate};
+ghost use Rattle.std.specs.Prelude.{◌≡◌, List, []};
 ghost use Rattle.terms.specs.Shorts.{held};
 ghost use Rattle.terms.specs.declared.literals.Literal.{Literal};
 ghost use Rattle.calculus.specs.Checks.{gathered, hyper_row};
 ghost use Rattle.book.specs.Contents.{contents};
-ghost use Rattle.terms.specs.declared.literals.Literal.TheVariants.{Concept};
 ghost use Rattle.book.specs.Offers.{hyper_call, premise_numbers};
-ghost use Rattle.calculus.specs.Replies.{after, check, reply};
 ghost use Rattle.book.specs.Rows.{Keeps, RowIn};
 
 use crate::checks::{is_claimed, passes};
 use crate::clauses::Clause;
 use crate::rows::Row;
 use crate::state::Book;
-use calculus::Answer;
+use crate::step::Step;
 use forms::HyperStep;
 use models::ConceptAxiom;
 use terms::{Literal, Refusal};
@@ -52,33 +50,21 @@ impl Book {
         row.put_all(implied.right(), None);
         self.gather(step, left, row)
     }
+}
 
-    // Whether the step is entered. What it leaves in the scratch is for the caller to clear.
-    fn check_hyper(&self, step: &HyperStep, scratch: &mut [Literal]) -> Result<(), Refusal>
-        ensures { result ≡ check (contents self.now) (hyper_call step.now (length scratch.old)) }
-    {
-        self.ready_core(step.context.index(), scratch.len())?;
-        let implied = self.concept_axiom(step.axiom.index())?;
+impl Step for HyperStep {
+    ghost call = { hyper_call };
+
+    fn check(&self, book: &Book, scratch: &mut [Literal]) -> Result<(), Refusal> {
+        book.ready_core(self.context.index(), scratch.len())?;
+        let implied = book.concept_axiom(self.axiom.index())?;
         let mut row = Row::new(scratch);
-        self.hyper_row(step, &implied, &mut row)?;
-        is_claimed(row.as_slice(), step.claim.as_slice())
+        book.hyper_row(self, &implied, &mut row)?;
+        is_claimed(row.as_slice(), self.claim.as_slice())
     }
 
-    // The hyper step: the claim, from the axiom and a premise for each of its left concepts.
-    pub(crate) fn hyper(
-        &mut self,
-        step: &HyperStep,
-        scratch: &mut [Literal],
-    ) -> Result<Answer, Refusal>
-        ensures answer { result ≡ reply (contents self.old) (hyper_call step.now (length scratch.old)) }
-        ensures change { contents self.new ≡ after (contents self.old) (hyper_call step.now (length scratch.old)) }
-        ensures cleared { scratch.new ≡ replicate (length scratch.old) (Concept 0) }
-    {
-        let checked = self.check_hyper(step, scratch);
-        let clause = Clause {
-            context: step.context.number() as u8,
-            head: step.claim.into(),
-        };
-        self.settle(checked, clause, scratch)
+    // The claim.
+    fn clause(&self) -> Clause {
+        Clause::new(self.context, self.claim.into())
     }
 }

@@ -14,6 +14,7 @@ mod pred;
 mod reading;
 mod rows;
 mod state;
+mod step;
 
 pub use calculus::Answer;
 pub use checks::SCRATCH_NEEDED;

@@ -29,9 +29,9 @@ impl Book {
             Form::Under { role, upper } => self.enter_inclusion(*role, *upper),
             Form::Close => self.close(),
             Form::Context(concepts) => self.open_context(concepts),
-            Form::Core(step) => self.core(step, scratch),
-            Form::Hyper(step) => self.hyper(step, scratch),
-            Form::Pred(step) => self.pred(step, scratch),
+            Form::Core(step) => self.step(step, scratch),
+            Form::Hyper(step) => self.step(step, scratch),
+            Form::Pred(step) => self.step(step, scratch),
             Form::Ask(asked) => self.ask(asked),
             Form::Refute(asked) => self.refute(asked, sample),
         }

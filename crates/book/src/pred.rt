@@ -1,10 +1,8 @@
 // The pred step: from `some e a` in a clause, through its sides, to a clause of a far context, and back.
-ghost use Rattle.std.specs.Prelude.{◌≡◌, List, [], length, replicate};
+ghost use Rattle.std.specs.Prelude.{◌≡◌, List, []};
 ghost use Rattle.terms.specs.Shorts.{held};
 ghost use Rattle.terms.specs.declared.literals.Literal.{Literal};
-ghost use Rattle.terms.specs.declared.literals.Literal.TheVariants.{Concept};
 ghost use Rattle.calculus.specs.Checks.{back_brings, back_test, core_named, far_row, near_row, reaches_test, same_core, side_brings, side_head, side_test, walked};
-ghost use Rattle.calculus.specs.Replies.{after, check, reply};
 ghost use Rattle.book.specs.Contents.{clause_of, contents};
 ghost use Rattle.book.specs.Offers.{pred_call};
 ghost use Rattle.book.specs.Rows.{Keeps, RowIn};
@@ -14,7 +12,7 @@ use crate::checks::{is_claimed, passes};
 use crate::clauses::Clause;
 use crate::rows::Row;
 use crate::state::Book;
-use calculus::Answer;
+use crate::step::Step;
 use forms::limits::{HEAD_LIMIT, LIST_LIMIT};
 use forms::{PredStep, Side};
 use terms::lists::is_within;
@@ -99,36 +97,24 @@ impl Book {
         is_core(u, concepts.as_slice(), names_of_core(step).as_slice())?;
         self.gather_back(step.role, far.head.as_slice(), row)
     }
+}
 
-    // Whether the step is entered. What it leaves in the scratch is for the caller to clear.
-    fn check_pred(&self, step: &PredStep, scratch: &mut [Literal]) -> Result<(), Refusal>
-        ensures { result ≡ check (contents self.now) (pred_call step.now (length scratch.old)) }
-    {
-        self.ready_core(step.context.index(), scratch.len())?;
+impl Step for PredStep {
+    ghost call = { pred_call };
+
+    fn check(&self, book: &Book, scratch: &mut [Literal]) -> Result<(), Refusal> {
+        book.ready_core(self.context.index(), scratch.len())?;
         let mut row = Row::new(scratch);
-        self.near_row(step, &mut row)?;
-        let sides = step.sides.as_slice().len();
-        let far = self.clause_at(sides + 1, step.far.index())?;
-        self.far_row(step, &far, &mut row)?;
-        is_claimed(row.as_slice(), step.claim.as_slice())
+        book.near_row(self, &mut row)?;
+        let sides = self.sides.as_slice().len();
+        let far = book.clause_at(sides + 1, self.far.index())?;
+        book.far_row(self, &far, &mut row)?;
+        is_claimed(row.as_slice(), self.claim.as_slice())
     }
 
-    // The pred step: the claim, from `some role concept` in the first clause, the sides, and the far clause.
-    pub(crate) fn pred(
-        &mut self,
-        step: &PredStep,
-        scratch: &mut [Literal],
-    ) -> Result<Answer, Refusal>
-        ensures answer { result ≡ reply (contents self.old) (pred_call step.now (length scratch.old)) }
-        ensures change { contents self.new ≡ after (contents self.old) (pred_call step.now (length scratch.old)) }
-        ensures cleared { scratch.new ≡ replicate (length scratch.old) (Concept 0) }
-    {
-        let checked = self.check_pred(step, scratch);
-        let clause = Clause {
-            context: step.context.number() as u8,
-            head: step.claim.into(),
-        };
-        self.settle(checked, clause, scratch)
+    // The claim.
+    fn clause(&self) -> Clause {
+        Clause::new(self.context, self.claim.into())
     }
 }
 
