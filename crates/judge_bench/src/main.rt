@@ -13,24 +13,22 @@ ghost use Rattle.models.specs.Tables.{table_meaning};
 ghost use Rattle.judge_bench.specs.Benching.{filled, missing, slow_sentence};
 
 use models::judge::judge;
+use models::samples::ELEMENT_LIMIT;
+use models::tables::{ROW_BYTES, TABLE_LIMIT};
 use models::{Axiom, ConceptAxiom, Table};
 use std::env;
 use std::rt::Clock;
 use std::time::Instant;
+use terms::literals::CONCEPTS;
 use terms::{Literal, Refusal, Role};
 
 // A chart is full with this many axioms.
 const AXIOMS: usize = 256;
 
-// The largest table: 64 elements in 256 + 32 × 64 rows of 8 bytes.
-const ELEMENTS: u8 = 64;
-
-const TABLE_BYTES: usize = 18_432;
-
 // Rows 0 to 7, the concepts on the left sides, end here, and rows from 256 on, the role names, begin there.
-const LEFT_END: usize = 64;
+const LEFT_END: usize = 8 * ROW_BYTES;
 
-const ROLES_BEGIN: usize = 2_048;
+const ROLES_BEGIN: usize = CONCEPTS as usize * ROW_BYTES;
 
 fn main(rt: HostRuntime) -> anyhow::Result<()> {
     run(&rt)
@@ -39,9 +37,9 @@ fn main(rt: HostRuntime) -> anyhow::Result<()> {
 // Judges the chart on the table and prints that every axiom holds, and, where runs are asked for, the least time of as many.
 fn run(rt: &HostRuntime) -> anyhow::Result<()> {
     let axioms = [slow_axiom()?; AXIOMS];
-    let mut bytes = [0u8; TABLE_BYTES];
+    let mut bytes = [0u8; TABLE_LIMIT];
     fill_table(&mut bytes);
-    let table = Table::new(&bytes, ELEMENTS);
+    let table = Table::new(&bytes, ELEMENT_LIMIT);
     judge(&axioms, &table)?;
     println!(rt; "256 axioms hold on a table of 64 elements")?;
     if let Some(runs) = wanted_runs(rt)? {

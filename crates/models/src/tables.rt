@@ -13,7 +13,12 @@ use terms::weights::has_weight;
 // How many concepts there are, and so how many rows stand before those of the role names.
 const CONCEPT_ROWS: usize = CONCEPTS as usize;
 
-const ROW_BYTES: usize = 8;
+/// How many bytes a row has.
+pub const ROW_BYTES: usize = 8;
+
+/// How many bytes the largest table has.
+pub const TABLE_LIMIT: usize = ROW_BYTES
+    * (CONCEPT_ROWS + ROLE_NAMES as usize * ELEMENT_LIMIT as usize);
 
 // How many rows a table of n elements has.
 fn row_count(n: u8) -> usize

@@ -1,10 +1,8 @@
 // Tables of bits: their length, their size, stray weights and the place of each bit.
 use crate::telling::told_first;
+use models::tables::TABLE_LIMIT;
 use models::{Sample, Table};
 use std::process::Abort;
-
-// A table of 64 elements, the largest there is: 8 × (256 + 32 × 64) bytes.
-const LARGEST: usize = 18_432;
 
 // The refusal number of the table's fault and its value, or (0, 0) where it has none.
 fn fault_of(bytes: &[u8], size: u8) -> (u8, usize) {
@@ -16,8 +14,8 @@ fn fault_of(bytes: &[u8], size: u8) -> (u8, usize) {
 
 // The fault of a table of zeros with so many bytes.
 fn fault_of_zeros(rt: &impl Abort, len: usize, size: u8) -> (u8, usize) {
-    let bytes = [0u8; LARGEST];
-    assert!(rt; len <= LARGEST);
+    let bytes = [0u8; TABLE_LIMIT];
+    assert!(rt; len <= TABLE_LIMIT);
     fault_of(&bytes[0..len], size)
 }
 
@@ -51,7 +49,7 @@ fn stray_weights(rt: HostRuntime) {
 
 #[test]
 fn the_highest_byte_comes_first(rt: HostRuntime) {
-    let mut bytes = [0u8; LARGEST];
+    let mut bytes = [0u8; TABLE_LIMIT];
     // concept 2 has row 2, bytes 16 to 23: element 0 is the lowest bit of byte 23, element 63 the highest of byte 16
     bytes[23] = 1;
     bytes[16] = 128;
