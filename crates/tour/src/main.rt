@@ -39,21 +39,23 @@ fn run(rt: &impl Print) -> anyhow::Result<()> {
 
 // Prints the verbs of the role codes, enters two inclusions, and prints what they make the roles reach.
 fn show_roles(rt: &impl Print) -> anyhow::Result<()> {
+    show_verbs(rt)?;
+    let mut reach = Reach::new();
+    enter(rt, &mut reach, 0, 4)?;
+    ask_each(rt, &reach, &[(0, 4), (1, 5), (1, 4), (4, 0)])?;
+    enter(rt, &mut reach, 3, 1)?;
+    ask_each(rt, &reach, &[(3, 1), (2, 0), (2, 1)])?;
+    for code in 0..SHOWN_CODES {
+        list_reached(rt, &reach, code)?;
+    }
+    Ok(())
+}
+
+// Prints the verb of each role code of the tour.
+fn show_verbs(rt: &impl Print) -> anyhow::Result<()> {
     for code in 0..SHOWN_CODES {
         let verb = reading(Role::new(code)?);
         println!(rt; "role code {code}: {verb}")?;
-    }
-    let mut reach = Reach::new();
-    enter(rt, &mut reach, 0, 4)?;
-    for (e, s) in [(0, 4), (1, 5), (1, 4), (4, 0)] {
-        ask(rt, &reach, e, s)?;
-    }
-    enter(rt, &mut reach, 3, 1)?;
-    for (e, s) in [(3, 1), (2, 0), (2, 1)] {
-        ask(rt, &reach, e, s)?;
-    }
-    for code in 0..SHOWN_CODES {
-        list_reached(rt, &reach, code)?;
     }
     Ok(())
 }
@@ -90,6 +92,14 @@ fn ask(rt: &impl Print, reach: &Reach, e: u8, s: u8) -> anyhow::Result<()>
         println!(rt; "  {e} reaches {s}")?;
     } else {
         println!(rt; "  {e} does not reach {s}")?;
+    }
+    Ok(())
+}
+
+// Asks the same of each pair of role codes, in order.
+fn ask_each(rt: &impl Print, reach: &Reach, pairs: &[(u8, u8)]) -> anyhow::Result<()> {
+    for (e, s) in pairs {
+        ask(rt, reach, *e, *s)?;
     }
     Ok(())
 }
