@@ -1,7 +1,7 @@
 //! Replays a small derivation in a book, asks what it shows, and refutes by a sample what it does not.
 #![tactic(auto)]
 
-ghost use Rattle.std.specs.Prelude.{◌≡◌};
+ghost use Rattle.std.specs.Prelude.{◌≡◌, map, IfOk};
 ghost use Rattle.models.specs.Listed.{list_meaning};
 ghost use Rattle.models.specs.Listed as listed;
 ghost use Rattle.models.specs.declared.facts.Fact.TheVariants.{In, Link};
@@ -9,6 +9,7 @@ ghost use Rattle.calculus.specs.Limits.{scratch_needed};
 ghost use Rattle.calculus.specs.Replies.{after};
 ghost use Rattle.book.specs.Contents.{contents};
 ghost use Rattle.book.specs.Offers.{call_of};
+ghost use Rattle.replay.specs.Offered.{after_all};
 
 use book::{Book, SCRATCH_NEEDED};
 use forms::{Form, LiteralNumbers};
@@ -116,7 +117,10 @@ impl Session<'_> {
     }
 
     // Offers the forms in their order, each with the line that stands for it.
-    fn offer_all(&mut self, rt: &impl Print, calls: &[(&str, Form)]) -> anyhow::Result<()> {
+    fn offer_all(&mut self, rt: &impl Print, calls: &[(&str, Form)]) -> anyhow::Result<()>
+        ensures book { IfOk result (λ _. contents self.new.book ≡ after_all (list_meaning (listed.contents self.old.sample)) (contents self.old.book) (map (λ call. call.1) calls.now)) }
+        ensures sample { self.new.sample ≡ self.old.sample }
+    {
         for (line, form) in calls {
             self.offer(rt, line, form)?;
         }
