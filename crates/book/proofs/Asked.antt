@@ -1,5 +1,5 @@
 -- What answers a question: concepts among literals, and the lowest clause. Assumes nothing.
-use Rattle.std.proofs.Common.{◌≡◌, ℕ, ◌+◌, Bool, false, cond, ◌||◌, ltb, List, [], ◌∷◌, map, Some, Option, refl, ap}
+use Rattle.std.proofs.Common.{◌≡◌, ℕ, ◌+◌, Bool, false, cond, ◌||◌, ltb, List, [], ◌∷◌, map, Some, Option, sym, refl, ap, ◌∙◌}
 use Rattle.std.specs.List.{position_from}
 use Rattle.terms.specs.Lists.{alike, member}
 use Rattle.terms.specs.Literals.{literal_precedes}
@@ -11,9 +11,13 @@ use Rattle.calculus.specs.Replies.{covering, lowest_clause}
 use Rattle.book.specs.Contents.{clause_of}
 use Rattle.book.specs.declared.clauses.Clause.{Clause}
 
-pub concept_among : (a : ℕ) (ms : List ℕ) → member ltb a ms ≡ member literal_precedes (Concept a) (map Concept ms)
+concept_among : (a : ℕ) (ms : List ℕ) → member ltb a ms ≡ member literal_precedes (Concept a) (map Concept ms)
 concept_among a [] = refl
 concept_among a (m ∷ ms) = ap (λ (b : Bool). alike ltb a m || b) (concept_among a ms)
+
+-- the same of a literal that is the concept a
+pub among_as : (l : Literal) (a : ℕ) (ms : List ℕ) → l ≡ Concept a → member ltb a ms ≡ member literal_precedes l (map Concept ms)
+among_as l a ms is = concept_among a ms ∙ ap (λ (k : Literal). member literal_precedes k (map Concept ms)) (sym is)
 
 exists_not_among : (E : Role) (a : ℕ) (ms : List ℕ) → false ≡ member literal_precedes (Exists E a) (map Concept ms)
 exists_not_among E a [] = refl
