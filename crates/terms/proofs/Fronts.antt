@@ -1,9 +1,9 @@
 -- A list that is written to the front of lent memory, item by item. Assumes nothing.
 use Rattle.std.proofs.Common.{◌≡◌, ℕ, ◌+◌, ◌<◌, ◌≤◌, ◌⊎◌, List, [], ◌∷◌, ◌++◌, length, take, drop, set, Ok, Err, sym, refl, ap, ◌∙◌, inl, inr, arith}
-use Rattle.std.proofs.lemmas.List.{append-nil, append_assoc, drop-drop, drop-set-lt, length-set, length-take-le, take-append-drop, take_at, take_more_set}
+use Rattle.std.proofs.lemmas.List.{append-nil, append_assoc, drop-drop, drop-set-lt, length-set, length-take-le, take-append-drop, take_more_set}
 use Rattle.std.proofs.lemmas.Bool.{cases_lt, cond-true, cond-false, le-leb, lt-leb}
 use Rattle.terms.specs.declared.refusals.Refusal.{Refusal}
-use Rattle.terms.specs.Writing.{room_for, written}
+use Rattle.terms.specs.Writing.{room_for}
 
 -- n items of `whole` are written over `before`, which has become `out`, and `rest` is still to come
 pub record Part {X : Type 0} (before out : List X) (n : ℕ) (rest whole : List X) : Type 0 where
