@@ -57,6 +57,27 @@ fn starting_again(rt: HostRuntime) -> Result<(), Fail> {
 }
 
 #[test]
+fn several_entries_up_to_the_first_that_is_refused(rt: HostRuntime) -> Result<(), Fail> {
+    let mut memory = [element(9, 9)?; 2];
+    let mut list = List::new(&mut memory[..]);
+    let (zero, one) = (element(5, 0)?, element(5, 1)?);
+    assert_eq!(rt; told_first(list.add_all(&[])), (0, 0));
+    // element 1 is not below the size 1: what stands before it is added, and nothing after it
+    assert_eq!(rt;
+        told_first(list.add_all(&[zero, one, link(3, 0, 0)?])),
+        (20, 1)
+    );
+    assert_eq!(rt; list.entries().len(), 1);
+    assert_eq!(rt; list.is_in(5, 0), true);
+    assert_eq!(rt; list.links(3, 0, 0), false);
+    // one place is left
+    assert_eq!(rt; told_first(list.add_all(&[link(3, 0, 0)?, zero])), (7, 2));
+    assert_eq!(rt; list.entries().len(), 2);
+    assert_eq!(rt; list.links(3, 0, 0), true);
+    Ok(())
+}
+
+#[test]
 fn no_memory_at_all(rt: HostRuntime) -> Result<(), Fail> {
     let mut memory: [Entry; 0] = [];
     let mut list = List::new(&mut memory[..]);
