@@ -18,7 +18,7 @@ use terms::{Literal, Refusal, Short};
 /// The literals of scratch that a step is to be lent: the most that one gathers. A pred step can gather 11 from a head of 12 that has
 /// `some e a`, which goes, 11 from each of 8 sides, whose own literal goes, and one for each of the 12 in a far head: 11 + 8 * 11 + 12 = 111. A
 /// hyper step can gather the 8 right literals of its axiom, and 11 from each of 8 premises, which is 96. A core step gathers none.
-pub const SCRATCH_NEEDED: usize = 111;
+pub const SCRATCH_NEEDED: usize = (HEAD_LIMIT - 1) * (1 + LIST_LIMIT) + HEAD_LIMIT;
 
 impl Book {
     // Whether a step can be looked at: the book is closed, the scratch is long enough, and a place for a clause is free.

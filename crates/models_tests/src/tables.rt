@@ -6,10 +6,8 @@ use std::process::Abort;
 
 // The refusal number of the table's fault and its value, or (0, 0) where it has none.
 fn fault_of(bytes: &[u8], size: u8) -> (u8, usize) {
-    match Table::new(bytes, size).fault() {
-        Some(fault) => told_first::<()>(Err(fault.into())),
-        None => (0, 0),
-    }
+    let fault = Table::new(bytes, size).fault();
+    fault.map_or((0, 0), |fault| told_first::<()>(Err(fault.into())))
 }
 
 // The fault of a table of zeros with so many bytes.

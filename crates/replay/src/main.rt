@@ -16,9 +16,6 @@ use forms::{Form, LiteralNumbers};
 use models::{Entry, Fact, List};
 use terms::Literal;
 
-// The most entries of the sample.
-const MEMORY: usize = 4;
-
 // A book, and the sample that it is to judge.
 #[derive(Drop)]
 struct Session<'a> {
@@ -32,13 +29,16 @@ fn main(rt: HostRuntime) -> anyhow::Result<()> {
 
 // Prints the calls of a session and their answers: a chart, a derivation from it, questions, and a sample of two elements.
 fn run(rt: &impl Print) -> anyhow::Result<()> {
-    let facts = [is_in(1, 0), is_in(3, 0), is_in(2, 1), links(0, 0, 1)];
-    let mut memory = [Entry::new(facts[0])?; MEMORY];
+    let entries = [
+        Entry::new(is_in(1, 0))?,
+        Entry::new(is_in(3, 0))?,
+        Entry::new(is_in(2, 1))?,
+        Entry::new(links(0, 0, 1))?,
+    ];
+    let mut memory = entries;
     let mut sample = List::new(&mut memory[..]);
     sample.start(2)?;
-    for fact in facts {
-        sample.add(Entry::new(fact)?)?;
-    }
+    sample.add_all(&entries)?;
     let mut session = Session {
         book: Book::new(),
         sample,

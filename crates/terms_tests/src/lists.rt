@@ -11,7 +11,7 @@ fn writes<F: FnOnce(&mut [u8]) -> Result<usize, Refusal>>(
     write: F,
     room: usize,
     answer: Result<usize, Refusal>,
-    after: [u8; 8],
+    after: [u8; MEMORY],
 )
     requires { F.IsAlwaysCallable write }
 {
@@ -29,7 +29,7 @@ fn joins(
     ys: &[u8],
     room: usize,
     answer: Result<usize, Refusal>,
-    after: [u8; 8],
+    after: [u8; MEMORY],
 ) {
     writes(rt, |out| join(xs, ys, out), room, answer, after)
 }
@@ -41,7 +41,7 @@ fn leaves(
     x: u8,
     room: usize,
     answer: Result<usize, Refusal>,
-    after: [u8; 8],
+    after: [u8; MEMORY],
 ) {
     writes(rt, |out| without(xs, &x, out), room, answer, after)
 }
