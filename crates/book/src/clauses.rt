@@ -27,7 +27,7 @@ impl Clause {
         ensures head { result.head ≡ head }
     {
         Clause {
-            context: context.number() as u8,
+            context: context.index() as u8,
             head,
         }
     }

@@ -35,14 +35,7 @@ impl<const LIMIT: usize> Below<LIMIT> {
         }
     }
 
-    pub fn number(&self) -> u32
-        ensures value { result ≡ self.now.number }
-        ensures range { result < LIMIT }
-    {
-        self.number
-    }
-
-    /// The number as an index.
+    /// The number.
     pub fn index(&self) -> usize
         ensures value { result ≡ self.now.number }
         ensures range { result < LIMIT }

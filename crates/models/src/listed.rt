@@ -1,4 +1,5 @@
 // A sample that is a list of entries in lent memory.
+ghost use Rattle.std.specs.Prelude.{◌≤◌, length};
 
 use crate::entries::Entry;
 
@@ -10,4 +11,5 @@ pub struct List<'a> {
     entries: &'a mut [Entry],
     count: usize,
     size: u8,
+    ghost fits: { count ≤ length entries.now },
 }

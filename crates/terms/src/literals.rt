@@ -7,7 +7,7 @@ ghost use Rattle.terms.specs.declared.literals.Literal.TheVariants.{Concept};
 ghost use Rattle.terms.specs.Positions.{literal_order};
 
 use crate::order::Ordered;
-use crate::roles::Role;
+use crate::roles::{ROLE_CODES, Role};
 use std::fmt;
 
 /// How many concepts there are, and so how many literals of one kind and one role.
@@ -19,7 +19,7 @@ pub const HEAD_LIMIT: usize = 12;
 // Where the literals `some E A` and `all E A` begin.
 const FIRST_EXISTS: u32 = CONCEPTS;
 
-const FIRST_FORALL: u32 = 16_640;
+const FIRST_FORALL: u32 = FIRST_EXISTS + CONCEPTS * ROLE_CODES as u32;
 
 /// A concept A; `some E A`, what has a filler of E in A; or `all E A`, what has all its fillers of E in A.
 #[derive(Clone, Copy, Debug, PartialEq, Eq)]

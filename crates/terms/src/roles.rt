@@ -8,7 +8,7 @@ pub mod methods;
 pub const ROLE_NAMES: u8 = 32;
 
 /// How many role codes there are: two for each role name.
-pub const ROLE_CODES: u8 = 64;
+pub const ROLE_CODES: u8 = 2 * ROLE_NAMES;
 
 /// A role code: 2 × n for the role name n read forwards, 2 × n + 1 for n read backwards.
 #[derive(Clone, Copy, Debug, PartialEq, Eq)]

@@ -28,7 +28,7 @@ impl Numbered for Side {
     ghost follows = { λ _ _. true };
 
     fn from_numbers(stated: SideNumbers) -> Result<Side, Refusal> {
-        let clause = ClauseNumber::new(stated.clause)?.number() as u16;
+        let clause = ClauseNumber::new(stated.clause)?.index() as u16;
         let role = role_of(stated.role)?;
         let concept = u8::from_numbers(stated.concept)?;
         Ok(Side {

@@ -91,7 +91,7 @@ impl<'a> List<'a> {
     pub fn entries(&self) -> &[Entry]
         ensures { result.now ≡ held_entries (contents self.now) }
     {
-        &self.entries[..self.count.min(self.entries.len())]
+        &self.entries[..self.count]
     }
 }
 
