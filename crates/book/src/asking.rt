@@ -4,7 +4,7 @@ ghost use Rattle.terms.specs.Lists.{contained, member};
 ghost use Rattle.terms.specs.Literals.{literal_precedes};
 ghost use Rattle.terms.specs.Shorts.{held};
 ghost use Rattle.terms.specs.declared.literals.Literal.TheVariants.{Concept};
-ghost use Rattle.book.specs.Contents.{clause_of, contents};
+ghost use Rattle.book.specs.Contents.{clause_of};
 ghost use Rattle.book.specs.Offers.{ask_call, refute_call};
 ghost use Rattle.calculus.specs.Replies.{covering, lowest_clause, reply};
 
@@ -36,7 +36,7 @@ fn are_concepts_of(literals: &[Literal], concepts: &[u8]) -> bool
 impl Book {
     // Whether the clause strengthens the subsumption.
     fn covers(&self, clause: &Clause, asked: &Subsumption) -> bool
-        ensures { result ≡ covering (contents self.now) (held asked.now.left.list) (held asked.now.right.list) (clause_of clause.now) }
+        ensures { result ≡ covering self.now (held asked.now.left.list) (held asked.now.right.list) (clause_of clause.now) }
     {
         let concepts = self.contexts.get(clause.context as usize);
         concepts.is_some_and(|core| is_within(core.as_slice(), asked.left.as_slice()))
@@ -45,7 +45,7 @@ impl Book {
 
     // The number of the lowest clause that strengthens the subsumption.
     fn lowest_clause(&self, asked: &Subsumption) -> Option<u16>
-        ensures { result ≡ lowest_clause (contents self.now) (held asked.now.left.list) (held asked.now.right.list) 0 (contents self.now).clauses }
+        ensures { result ≡ lowest_clause self.now (held asked.now.left.list) (held asked.now.right.list) 0 self.now.clauses }
     {
         let clauses = self.clauses.as_slice();
         let n = clauses
@@ -56,7 +56,7 @@ impl Book {
 
     // Which clause of a closed book shows the subsumption, if any.
     pub(crate) fn ask(&self, asked: &Subsumption) -> Result<Answer, Refusal>
-        ensures { result ≡ reply (contents self.now) (ask_call asked.now) }
+        ensures { result ≡ reply self.now (ask_call asked.now) }
     {
         self.be_closed()?;
         let lowest = self.lowest_clause(asked);
@@ -69,7 +69,7 @@ impl Book {
         asked: &Subsumption,
         sample: &S,
     ) -> Result<Answer, Refusal>
-        ensures { result ≡ reply (contents self.now) (refute_call asked.now (S.meaning sample.now)) }
+        ensures { result ≡ reply self.now (refute_call asked.now (S.meaning sample.now)) }
     {
         self.be_closed()?;
         judge(self.axioms.as_slice(), sample)?;

@@ -4,7 +4,7 @@ ghost use Rattle.std.specs.List.{slice_get};
 ghost use Rattle.terms.specs.Shorts.{held};
 ghost use Rattle.terms.specs.declared.refusals.Refusal.TheVariants.{ClauseNotEntered, NoConceptAxiom};
 ghost use Rattle.calculus.specs.Checks.{and_then, claimed, core_of, passes, premise_head, ready, required, sides_of};
-ghost use Rattle.book.specs.Contents.{clause_of, contents};
+ghost use Rattle.book.specs.Contents.{clause_of};
 ghost use Rattle.book.specs.Views.{both_sides, seen};
 
 use crate::clauses::Clause;
@@ -23,7 +23,7 @@ pub const SCRATCH_NEEDED: usize = (HEAD_LIMIT - 1) * (1 + LIST_LIMIT) + HEAD_LIM
 impl Book {
     // Whether a step can be looked at: the book is closed, the scratch is long enough, and a place for a clause is free.
     pub(crate) fn ready(&self, scratch: usize) -> Result<(), Refusal>
-        ensures { result ≡ ready (contents self.now) scratch }
+        ensures { result ≡ ready self.now scratch }
     {
         self.be_closed()?;
         let short = Refusal::MemoryTooShort {
@@ -43,14 +43,14 @@ impl Book {
         v: usize,
         missing: Refusal,
     ) -> Result<Short<u8, LIST_LIMIT>, Refusal>
-        ensures { seen held result ≡ required missing (slice_get (contents self.now).contexts v) }
+        ensures { seen held result ≡ required missing (slice_get self.now.contexts v) }
     {
         self.contexts.get(v).ok_or(missing)
     }
 
     // The core of the context v.
     pub(crate) fn core_of(&self, v: usize) -> Result<Short<u8, LIST_LIMIT>, Refusal>
-        ensures { seen held result ≡ core_of (contents self.now) v }
+        ensures { seen held result ≡ core_of self.now v }
     {
         self.core_or(v, Refusal::ContextNotOpened { context: v })
     }
@@ -61,7 +61,7 @@ impl Book {
         v: usize,
         scratch: usize,
     ) -> Result<Short<u8, LIST_LIMIT>, Refusal>
-        ensures { seen held result ≡ and_then (ready (contents self.now) scratch) (λ _. core_of (contents self.now) v) }
+        ensures { seen held result ≡ and_then (ready self.now scratch) (λ _. core_of self.now v) }
     {
         self.ready(scratch)?;
         self.core_of(v)
@@ -69,7 +69,7 @@ impl Book {
 
     // Axiom number x, which is to be a concept axiom.
     pub(crate) fn concept_axiom(&self, x: usize) -> Result<ConceptAxiom, Refusal>
-        ensures { seen both_sides result ≡ sides_of (NoConceptAxiom x) (slice_get (contents self.now).axioms x) }
+        ensures { seen both_sides result ≡ sides_of (NoConceptAxiom x) (slice_get self.now.axioms x) }
     {
         match self.axioms.get(x) {
             Some(Axiom::Implies(axiom)) => Ok(axiom),
@@ -79,7 +79,7 @@ impl Book {
 
     // Clause number n, which is premise i.
     pub(crate) fn clause_at(&self, i: usize, n: usize) -> Result<Clause, Refusal>
-        ensures { seen clause_of result ≡ required (ClauseNotEntered i n) (slice_get (contents self.now).clauses n) }
+        ensures { seen clause_of result ≡ required (ClauseNotEntered i n) (slice_get self.now.clauses n) }
     {
         self.clauses.get(n).ok_or(Refusal::ClauseNotEntered {
             premise: i,
@@ -95,7 +95,7 @@ impl Book {
         n: usize,
         own: Literal,
     ) -> Result<Short<Literal, HEAD_LIMIT>, Refusal>
-        ensures { seen held result ≡ premise_head (contents self.now).clauses i v n own }
+        ensures { seen held result ≡ premise_head self.now.clauses i v n own }
     {
         let clause = self.clause_at(i, n)?;
         let context = clause.context as usize;

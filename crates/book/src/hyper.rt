@@ -3,7 +3,6 @@ ghost use Rattle.std.specs.Prelude.{◌≡◌, List, []};
 ghost use Rattle.terms.specs.Shorts.{held};
 ghost use Rattle.terms.specs.declared.literals.Literal.{Literal};
 ghost use Rattle.calculus.specs.Checks.{gathered, hyper_row};
-ghost use Rattle.book.specs.Contents.{contents};
 ghost use Rattle.book.specs.Offers.{hyper_call, premise_numbers};
 ghost use Rattle.book.specs.Rows.{Keeps, RowIn};
 
@@ -19,7 +18,7 @@ use terms::{Literal, Refusal};
 impl Book {
     // Puts what each premise has besides its own concept into the row.
     fn gather(&self, step: &HyperStep, left: &[u8], row: &mut Row<'_>) -> Result<(), Refusal>
-        ensures { (start : List Literal) → Keeps row.old start → RowIn row.new result (gathered (contents self.now).clauses step.now.context.number left.now (premise_numbers step.now) start) }
+        ensures { (start : List Literal) → Keeps row.old start → RowIn row.new result (gathered self.now.clauses step.now.context.number left.now (premise_numbers step.now) start) }
     {
         let v = step.context.index();
         let premises = step.premises.as_slice();
@@ -38,7 +37,7 @@ impl Book {
         implied: &ConceptAxiom,
         row: &mut Row<'_>,
     ) -> Result<(), Refusal>
-        ensures { Keeps row.old [] → RowIn row.new result (hyper_row (contents self.now) step.now.context.number (held implied.now.left) (premise_numbers step.now) (held implied.now.right)) }
+        ensures { Keeps row.old [] → RowIn row.new result (hyper_row self.now step.now.context.number (held implied.now.left) (premise_numbers step.now) (held implied.now.right)) }
     {
         let left = implied.left();
         let given = step.premises.as_slice().len();

@@ -1,6 +1,5 @@
 // The call that every host makes, and the law that it keeps.
 ghost use Rattle.std.specs.Prelude.{◌≡◌, length};
-ghost use Rattle.book.specs.Contents.{contents};
 ghost use Rattle.calculus.specs.Law.{KeepsLaw};
 ghost use Rattle.book.specs.Offers.{call_of, scratch_after};
 ghost use Rattle.calculus.specs.Replies.{after, reply};
@@ -19,10 +18,10 @@ impl Book {
         scratch: &mut [Literal],
         sample: &S,
     ) -> Result<Answer, Refusal>
-        ensures answer { result ≡ reply (contents self.old) (call_of form.now (length scratch.old) (S.meaning sample.now)) }
-        ensures change { contents self.new ≡ after (contents self.old) (call_of form.now (length scratch.old) (S.meaning sample.now)) }
+        ensures answer { result ≡ reply self.old (call_of form.now (length scratch.old) (S.meaning sample.now)) }
+        ensures change { self.new ≡ after self.old (call_of form.now (length scratch.old) (S.meaning sample.now)) }
         ensures scratch { scratch.new ≡ scratch_after (call_of form.now (length scratch.old) (S.meaning sample.now)) scratch.old }
-        ensures law { KeepsLaw (contents self.old) (call_of form.now (length scratch.old) (S.meaning sample.now)) result (contents self.new) }
+        ensures law { KeepsLaw self.old (call_of form.now (length scratch.old) (S.meaning sample.now)) result self.new }
     {
         match form {
             Form::Axiom(axiom) => self.enter_axiom(*axiom),

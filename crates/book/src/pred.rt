@@ -3,7 +3,7 @@ ghost use Rattle.std.specs.Prelude.{◌≡◌, List, []};
 ghost use Rattle.terms.specs.Shorts.{held};
 ghost use Rattle.terms.specs.declared.literals.Literal.{Literal};
 ghost use Rattle.calculus.specs.Checks.{back_brings, back_test, core_named, far_row, near_row, reaches_test, same_core, side_brings, side_head, side_test, walked};
-ghost use Rattle.book.specs.Contents.{clause_of, contents};
+ghost use Rattle.book.specs.Contents.{clause_of};
 ghost use Rattle.book.specs.Offers.{pred_call};
 ghost use Rattle.book.specs.Rows.{Keeps, RowIn};
 ghost use Rattle.book.specs.Views.{seen};
@@ -23,7 +23,7 @@ const NAME_LIMIT: usize = LIST_LIMIT + 1;
 
 impl Book {
     fn reaches(&self, e: Role, s: Role) -> bool
-        ensures { result ≡ reaches_test (contents self.now) e.code s.code }
+        ensures { result ≡ reaches_test self.now e.code s.code }
     {
         self.reach.reaches(e, s)
     }
@@ -35,7 +35,7 @@ impl Book {
         step: &PredStep,
         side: Side,
     ) -> Result<Short<Literal, HEAD_LIMIT>, Refusal>
-        ensures { seen held result ≡ side_head (contents self.now) i step.now.context.number step.now.role.code side }
+        ensures { seen held result ≡ side_head self.now i step.now.context.number step.now.role.code side }
     {
         let v = step.context.index();
         let head = self.premise(i, v, side.clause as usize, side.literal())?;
@@ -46,7 +46,7 @@ impl Book {
 
     // The concept that literal i of the far head brings back.
     fn brought_back(&self, e: Role, i: usize, literal: Literal) -> Result<u8, Refusal>
-        ensures { result ≡ back_test (contents self.now) e.code i literal }
+        ensures { result ≡ back_test self.now e.code i literal }
     {
         match literal {
             Literal::Forall(t, c) if self.reaches(e.mirror(), t) => Ok(c),
@@ -56,7 +56,7 @@ impl Book {
 
     // Puts what each side has besides its own literal into the row.
     fn gather_sides(&self, step: &PredStep, row: &mut Row<'_>) -> Result<(), Refusal>
-        ensures { (start : List Literal) → Keeps row.old start → RowIn row.new result (walked (side_test (contents self.now) step.now.context.number step.now.role.code) side_brings 0 (held step.now.sides.list) start) }
+        ensures { (start : List Literal) → Keeps row.old start → RowIn row.new result (walked (side_test self.now step.now.context.number step.now.role.code) side_brings 0 (held step.now.sides.list) start) }
     {
         let sides = step.sides.as_slice();
         for (i, side) in sides.iter().enumerate() {
@@ -68,7 +68,7 @@ impl Book {
 
     // Puts the concept that each literal of the far head brings back into the row.
     fn gather_back(&self, e: Role, far: &[Literal], row: &mut Row<'_>) -> Result<(), Refusal>
-        ensures { (start : List Literal) → Keeps row.old start → RowIn row.new result (walked (back_test (contents self.now) e.code) back_brings 0 far.now start) }
+        ensures { (start : List Literal) → Keeps row.old start → RowIn row.new result (walked (back_test self.now e.code) back_brings 0 far.now start) }
     {
         for (i, literal) in far.iter().enumerate() {
             row.put(Literal::Concept(self.brought_back(e, i, *literal)?));
@@ -80,7 +80,7 @@ impl Book {
 impl Book {
     // Puts what the clauses of the step's context give into the empty row.
     fn near_row(&self, step: &PredStep, row: &mut Row<'_>) -> Result<(), Refusal>
-        ensures { Keeps row.old [] → RowIn row.new result (near_row (contents self.now) step.now.context.number step.now.first.number step.now.role step.now.concept (held step.now.sides.list)) }
+        ensures { Keeps row.old [] → RowIn row.new result (near_row self.now step.now.context.number step.now.first.number step.now.role step.now.concept (held step.now.sides.list)) }
     {
         let own = Literal::Exists(step.role, step.concept);
         let head = self.premise(0, step.context.index(), step.first.index(), own)?;
@@ -90,7 +90,7 @@ impl Book {
 
     // Puts what the far clause brings back into the row.
     fn far_row(&self, step: &PredStep, far: &Clause, row: &mut Row<'_>) -> Result<(), Refusal>
-        ensures { (start : List Literal) → Keeps row.old start → RowIn row.new result (far_row (contents self.now) step.now.role.code step.now.concept (held step.now.sides.list) (clause_of far.now) start) }
+        ensures { (start : List Literal) → Keeps row.old start → RowIn row.new result (far_row self.now step.now.role.code step.now.concept (held step.now.sides.list) (clause_of far.now) start) }
     {
         let u = far.context as usize;
         let concepts = self.core_or(u, Refusal::CoreDiffers { context: u })?;

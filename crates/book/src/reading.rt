@@ -2,7 +2,7 @@
 ghost use Rattle.std.specs.Prelude.{◌≡◌, map};
 ghost use Rattle.terms.specs.Shorts.{held};
 ghost use Rattle.models.specs.Charts.{sentence_of};
-ghost use Rattle.book.specs.Contents.{clause_of, contents};
+ghost use Rattle.book.specs.Contents.{clause_of};
 
 use crate::clauses::{Clause, Phase};
 use crate::state::Book;
@@ -13,28 +13,28 @@ use terms::Short;
 impl Book {
     /// Whether the book is closed, and so takes contexts, steps and questions.
     pub fn is_closed(&self) -> bool
-        ensures { result ≡ (contents self.now).closed }
+        ensures { result ≡ self.now.closed }
     {
         matches!(self.phase, Phase::Closed)
     }
 
     /// The axioms, in the order of their numbers.
     pub fn axioms(&self) -> &[Axiom]
-        ensures { map sentence_of result.now ≡ (contents self.now).axioms }
+        ensures { map sentence_of result.now ≡ self.now.axioms }
     {
         self.axioms.as_slice()
     }
 
     /// The cores of the contexts, in the order of their numbers.
     pub fn cores(&self) -> &[Short<u8, LIST_LIMIT>]
-        ensures { map held result.now ≡ (contents self.now).contexts }
+        ensures { map held result.now ≡ self.now.contexts }
     {
         self.contexts.as_slice()
     }
 
     /// The clauses, in the order of their numbers.
     pub fn clauses(&self) -> &[Clause]
-        ensures { map clause_of result.now ≡ (contents self.now).clauses }
+        ensures { map clause_of result.now ≡ self.now.clauses }
     {
         self.clauses.as_slice()
     }

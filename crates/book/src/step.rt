@@ -4,7 +4,6 @@ ghost use Rattle.terms.specs.declared.literals.Literal.TheVariants.{Concept};
 ghost use Rattle.forms.specs.Limits.{clause_limit};
 ghost use Rattle.calculus.specs.Events.{Event};
 ghost use Rattle.calculus.specs.Replies.{after, check, reply};
-ghost use Rattle.book.specs.Contents.{contents};
 ghost use Rattle.book.specs.Offers.{EntersClause};
 
 use crate::clauses::Clause;
@@ -19,8 +18,8 @@ pub(crate) trait Step {
 
     // Whether the book takes the step. What it leaves in the scratch is for the caller to clear.
     fn check(&self, book: &Book, scratch: &mut [Literal]) -> Result<(), Refusal>
-        ensures value { result ≡ check (contents book.now) (call self.now (length scratch.old)) }
-        ensures room { result ≡ Ok tt → length (contents book.now).clauses < clause_limit };
+        ensures value { result ≡ check book.now (call self.now (length scratch.old)) }
+        ensures room { result ≡ Ok tt → length book.now.clauses < clause_limit };
 
     // The clause that the step enters.
     fn clause(&self) -> Clause
@@ -34,8 +33,8 @@ impl Book {
         step: &S,
         scratch: &mut [Literal],
     ) -> Result<Answer, Refusal>
-        ensures answer { result ≡ reply (contents self.old) (S.call step.now (length scratch.old)) }
-        ensures change { contents self.new ≡ after (contents self.old) (S.call step.now (length scratch.old)) }
+        ensures answer { result ≡ reply self.old (S.call step.now (length scratch.old)) }
+        ensures change { self.new ≡ after self.old (S.call step.now (length scratch.old)) }
         ensures cleared { scratch.new ≡ replicate (length scratch.old) (Concept 0) }
     {
         let checked = step.check(self, scratch);

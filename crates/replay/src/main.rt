@@ -7,7 +7,6 @@ ghost use Rattle.models.specs.Listed as listed;
 ghost use Rattle.models.specs.declared.facts.Fact.TheVariants.{In, Link};
 ghost use Rattle.calculus.specs.Limits.{scratch_needed};
 ghost use Rattle.calculus.specs.Replies.{after};
-ghost use Rattle.book.specs.Contents.{contents};
 ghost use Rattle.book.specs.Offers.{call_of};
 ghost use Rattle.replay.specs.Offered.{after_all};
 
@@ -118,7 +117,7 @@ impl Session<'_> {
 
     // Offers the forms in their order, each with the line that stands for it.
     fn offer_all(&mut self, rt: &impl Print, calls: &[(&str, Form)]) -> anyhow::Result<()>
-        ensures book { IfOk result (λ _. contents self.new.book ≡ after_all (list_meaning (listed.contents self.old.sample)) (contents self.old.book) (map (λ call. call.1) calls.now)) }
+        ensures book { IfOk result (λ _. self.new.book ≡ after_all (list_meaning (listed.contents self.old.sample)) self.old.book (map (λ call. call.1) calls.now)) }
         ensures sample { self.new.sample ≡ self.old.sample }
     {
         for (line, form) in calls {
@@ -129,7 +128,7 @@ impl Session<'_> {
 
     // Offers the form to the book, and prints the line that stands for it, and the answer. The book has taken the form also where printing fails.
     fn offer(&mut self, rt: &impl Print, line: &str, form: &Form) -> anyhow::Result<()>
-        ensures book { contents self.new.book ≡ after (contents self.old.book) (call_of form.now scratch_needed (list_meaning (listed.contents self.old.sample))) }
+        ensures book { self.new.book ≡ after self.old.book (call_of form.now scratch_needed (list_meaning (listed.contents self.old.sample))) }
         ensures sample { self.new.sample ≡ self.old.sample }
     {
         let mut scratch = [Literal::Concept(0); SCRATCH_NEEDED];

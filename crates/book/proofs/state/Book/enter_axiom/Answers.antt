@@ -6,5 +6,5 @@ use Rattle.book.proofs.state.Book.enter_axiom.Goals as goal
 
 pub invariant_of-self : goal.invariant_of-self
 invariant_of-self c =
-    let same = no_inclusion_added c.args.implied (is_ok c.enter.result) (held c.args.self.now.axioms) (held c.enter.new.list) c.enter.ensures.change in
-    record { tied = λ E S b. c.args.self.now.tied E S b ∙ ap (λ (l : List Inclusion). reach_test l E S) (sym same) }
+    let same = no_inclusion_added c.args.implied (is_ok c.enter.result) (held c.self.inside.axioms) (held c.enter.new.list) c.enter.ensures.change in
+    λ E S b. c.self.invariant E S b ∙ ap (λ (l : List Inclusion). reach_test l E S) (sym same)

@@ -8,6 +8,6 @@ use Rattle.book.proofs.state.Book.enter_inclusion.Goals as goal
 
 pub invariant_of-self-2 : goal.invariant_of-self-2
 invariant_of-self-2 c =
-    let old = held c.args.self.now.axioms in
+    let old = held c.self.inside.axioms in
     let more = inclusion_added c.args.e c.args.s old (held c.enter.new.list) c.in_ok-entered.ensures.change in
-    record { tied = λ E S b. c.include.ensures (inclusions (map sentence_of old)) c.args.self.now.tied E S b ∙ ap (λ (l : List Inclusion). reach_test l E S) (sym more) }
+    λ E S b. c.include.ensures (inclusions (map sentence_of old)) c.self.invariant E S b ∙ ap (λ (l : List Inclusion). reach_test l E S) (sym more)

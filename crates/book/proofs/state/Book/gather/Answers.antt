@@ -7,7 +7,6 @@ use Rattle.terms.specs.Shorts.{held}
 use Rattle.calculus.specs.Checks.{premise_brings, premise_test}
 use Rattle.calculus.specs.Register.{pairs}
 use Rattle.forms.specs.declared.ranges.Below.{Below}
-use Rattle.book.specs.Contents.{contents}
 use Rattle.book.specs.Offers.{premise_numbers}
 use Rattle.book.proofs.Gathers.{gather_ends, gather_on, gather_stops}
 use Rattle.book.proofs.Pairs.{pairs_end, pairs_turn}
@@ -19,7 +18,7 @@ returns-in_err-head c =
     let left = c.args.left.now in
     let all = pairs left (premise_numbers step) in
     let n = length c.loop-i.yielded in
-    let test = premise_test (contents c.args.self.now).clauses step.context.number in
+    let test = premise_test c.args.self.now.clauses step.context.number in
     let t = pairs_turn (λ (k : Below 512). k.number) left (held step.premises.list) n c.in-Some.i (c.in-Some.concept.now, c.in-Some.premise.now) (YieldsList-turn (YieldsList-from_enumerate (YieldsList-from_zip (YieldsList-from_slice left (cc)) (YieldsList-from_slice (held step.premises.list) (cc))) (cc)) c.loop-i.yielded c.loop-i.i-iterator c.loop-i.yielded_by c.next.result c.next.new.self (c.in-Some.i, (c.in-Some.concept, c.in-Some.premise)) c.in-Some.is c.next.ensures.steps) in
     let p = err_from_is_err_and c.from_residual.result c.from_residual.ensures.1 in
     let stops : Err c.in_err-head.field-0.0 ≡ test n (c.in-Some.concept.now, c.in-Some.premise.now.number) = rw (← t.0, ← c.index-v.ensures.value, ← c.index.ensures.value) c.in_err-head.ensures in
@@ -31,7 +30,7 @@ loop-i-preserved c =
     let left = c.args.left.now in
     let all = pairs left (premise_numbers step) in
     let n = length c.loop-i.yielded in
-    let test = premise_test (contents c.args.self.now).clauses step.context.number in
+    let test = premise_test c.args.self.now.clauses step.context.number in
     let x : ℕ × ℕ = (c.in-Some.concept.now, c.in-Some.premise.now.number) in
     let t = pairs_turn (λ (k : Below 512). k.number) left (held step.premises.list) n c.in-Some.i (c.in-Some.concept.now, c.in-Some.premise.now) (YieldsList-turn (YieldsList-from_enumerate (YieldsList-from_zip (YieldsList-from_slice left (cc)) (YieldsList-from_slice (held step.premises.list) (cc))) (cc)) c.loop-i.yielded c.loop-i.i-iterator c.loop-i.yielded_by c.next.result c.next.new.self (c.in-Some.i, (c.in-Some.concept, c.in-Some.premise)) c.in-Some.is c.next.ensures.steps) in
     let passes : Ok (held c.in_ok-head.head) ≡ test n x = rw (← t.0, ← c.index-v.ensures.value, ← c.index.ensures.value) c.in_ok-head.ensures in
@@ -45,4 +44,4 @@ returns c =
     let all = pairs left (premise_numbers step) in
     let n = length c.loop-i.yielded in
     let t = YieldsList-end (YieldsList-from_enumerate (YieldsList-from_zip (YieldsList-from_slice left (cc)) (YieldsList-from_slice (held step.premises.list) (cc))) (cc)) c.loop-i.yielded c.loop-i.i-iterator c.loop-i.yielded_by c.next.result c.next.new.self c.in-None.is c.next.ensures.steps in
-    gather_ends (premise_test (contents c.args.self.now).clauses step.context.number) premise_brings all c.args.row.now c.loop-i.row n _ c.loop-i.invariant (pairs_end (λ (k : Below 512). k.number) left (held step.premises.list) n t.1)
+    gather_ends (premise_test c.args.self.now.clauses step.context.number) premise_brings all c.args.row.now c.loop-i.row n _ c.loop-i.invariant (pairs_end (λ (k : Below 512). k.number) left (held step.premises.list) n t.1)
