@@ -1,9 +1,9 @@
 -- A list that is written to the front of lent memory, item by item. Assumes nothing.
 use Rattle.std.proofs.Common.{◌≡◌, ℕ, ◌+◌, ◌<◌, ◌≤◌, ◌⊎◌, List, [], ◌∷◌, ◌++◌, length, take, drop, set, Ok, Err, sym, refl, ap, ◌∙◌, inl, inr, arith}
-use Rattle.std.proofs.lemmas.List.{append-nil, append_assoc, drop-drop, drop-set-lt, length-set, length-take-le, take-append-drop, take_more_set}
+use Rattle.std.proofs.lemmas.List.{append-nil, append_assoc, drop-drop, drop-set-lt, length-append, length-set, length-take-le, take-append-drop, take_at, take_more_set}
 use Rattle.std.proofs.lemmas.Bool.{cases_lt, cond-true, cond-false, le-leb, lt-leb}
 use Rattle.terms.specs.declared.refusals.Refusal.{Refusal}
-use Rattle.terms.specs.Writing.{room_for}
+use Rattle.terms.specs.Writing.{room_for, written}
 
 -- n items of `whole` are written over `before`, which has become `out`, and `rest` is still to come
 pub record Part {X : Type 0} (before out : List X) (n : ℕ) (rest whole : List X) : Type 0 where
@@ -14,6 +14,11 @@ pub record Part {X : Type 0} (before out : List X) (n : ℕ) (rest whole : List 
 module _ {X : Type 0} where
   pub part_start : (before whole : List X) → Part before before 0 whole whole
   part_start before whole = record { room = omega arith; kept = refl; so_far = refl }
+
+  -- where more is to come of what fits, there is room for it
+  pub part_room : (before out : List X) (n : ℕ) (y : X) (rest whole : List X) → length whole ≤ length out → Part before out n (y ∷ rest) whole → n < length out
+  part_room before out n y rest whole fits p =
+      omega (arith, ap length p.so_far, length-append (take n out) (y ∷ rest), length-take-le n out p.room)
 
   pub part_write : (before out : List X) (n : ℕ) (y : X) (rest whole : List X) → n < length out → Part before out n (y ∷ rest) whole → Part before (set out n y) (n + 1) rest whole
   part_write before out n y rest whole within p = record {
@@ -27,6 +32,10 @@ module _ {X : Type 0} where
   -- what is to come, in other words
   pub part_other : (before out : List X) (n : ℕ) (rest other whole : List X) → rest ≡ other → Part before out n rest whole → Part before out n other whole
   part_other before out n rest other whole e p = record { room = p.room; kept = p.kept; so_far = ap (λ l. take n out ++ l) (sym e) ∙ p.so_far }
+
+  -- the same, of values that a way through the code gave
+  pub part_is : (before out out' : List X) (n n' : ℕ) (rest whole : List X) → out' ≡ out → n' ≡ n → Part before out n rest whole → Part before out' n' rest whole
+  part_is before out out' n n' rest whole d e p = rw (d, e) p
 
   front_whole : (before out : List X) (n : ℕ) (whole : List X) → Part before out n [] whole → take n out ≡ whole
   front_whole before out n whole p = sym (append-nil (take n out)) ∙ p.so_far
@@ -54,3 +63,9 @@ module _ {X : Type 0} where
       go : (n < length row) ⊎ (length row ≤ n) → n < length row
       go (inl lt) = lt
       go (inr le) = let f = e ∙ cond-true _ _ _ (le-leb _ _ le) in let z : ◌≡◌ {A = ℕ} 0 1 = cc in absurd (omega arith)
+
+  -- what was written stands at the front
+  pub front_written : (row before after : List X) (k : ℕ) → Ok k ≡ room_for row (length before) → after ≡ written row before → take k after ≡ row
+  front_written row before after k e is =
+      let f = room_ok row (length before) k e in
+      ap (take k) (is ∙ cond-true _ _ _ (le-leb _ _ f.1)) ∙ take_at row (drop (length row) before) k (sym f.0)

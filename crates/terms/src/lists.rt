@@ -6,7 +6,7 @@ ghost use Rattle.terms.specs.declared.refusals.Refusal.TheVariants.{MemoryTooSho
 
 use crate::order::Ordered;
 use crate::refusals::Refusal;
-use crate::walks::{Join, Without, write_out};
+use crate::walks::{Join, Without, count, write, write_out};
 
 /// Whether each item stands before the next.
 pub fn is_rising<T: Ordered>(xs: &[T]) -> bool
@@ -20,7 +20,9 @@ pub fn has<T: Ordered>(xs: &[T], x: &T) -> bool
     ensures value { result ≡ member T.precedes x.now xs.now }
     ensures means { Decides result (x.now ∈ xs.now) }
 {
-    xs.iter().any(|y| x.same(y))
+    // A copy, since each look at `x` itself would read its memory again.
+    let item = *x;
+    xs.iter().any(|y| item.same(y))
 }
 
 /// Whether every item of xs is one of ys. Neither list need rise.
@@ -48,7 +50,28 @@ pub fn join<T: Ordered>(xs: &[T], ys: &[T], out: &mut [T]) -> Result<usize, Refu
     ensures means { IsUnion xs.now ys.now (union T.precedes xs.now ys.now) }
     ensures rises { rising T.precedes xs.now ≡ true → rising T.precedes ys.now ≡ true → rising T.precedes (union T.precedes xs.now ys.now) ≡ true }
 {
-    write_out(Join { xs, ys }, out)
+    let items = Join { xs, ys };
+    // Where there is room for all of both lists, the join need not be counted first.
+    if ys.len() <= out.len() && xs.len() <= out.len() - ys.len() {
+        return Ok(write(items, out));
+    }
+    let Some(needed) = count(items) else {
+        return Err(Refusal::MemoryTooShort { needed: usize::MAX });
+    };
+    write_out(items, needed, out)
+}
+
+// How many items are left of a list without x. A plain loop, which on bytes is faster than counting what `Without` yields.
+fn without_len<T: Ordered>(xs: &[T], x: &T) -> usize
+    ensures { result ≡ length (removal T.precedes x.now xs.now) }
+{
+    let mut count = 0;
+    for y in xs {
+        if !x.same(y) {
+            count += 1;
+        }
+    }
+    count
 }
 
 /// Writes a list without x to the front of `out` and answers how many items are left; where they do not fit, `out` stays as
@@ -59,5 +82,9 @@ pub fn without<T: Ordered>(xs: &[T], x: &T, out: &mut [T]) -> Result<usize, Refu
     ensures means { IsRemoval x.now xs.now (removal T.precedes x.now xs.now) }
     ensures rises { rising T.precedes xs.now ≡ true → rising T.precedes (removal T.precedes x.now xs.now) ≡ true }
 {
-    write_out(Without { xs, gone: *x }, out)
+    let left = Without { xs, gone: *x };
+    if xs.len() <= out.len() {
+        return Ok(write(left, out));
+    }
+    write_out(left, without_len(xs, x), out)
 }

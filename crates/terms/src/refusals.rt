@@ -5,7 +5,7 @@ ghost use Rattle.terms.specs.Refusals.{first_value, number, second_value};
 use std::error::Error;
 use std::fmt;
 
-#[derive(Clone, Copy, Debug, PartialEq, Eq)]
+#[derive(Clone, Copy, PartialEq, Eq)]
 pub enum Refusal {
     /// 1: the byte at this offset is wrong or missing.
     WrongByte { at: usize },
@@ -127,6 +127,15 @@ impl Refusal {
                 element: b,
             } => (a, b),
         }
+    }
+}
+
+// A refusal is told by its number and values, as everywhere, and not by the name of its variant.
+impl fmt::Debug for Refusal {
+    fn fmt<W: fmt::Write>(&self, f: &mut fmt::Formatter<W>) -> fmt::Result {
+        let number = self.number();
+        let (first, second) = self.values();
+        write!(f, "Refusal({number}, {first}, {second})")
     }
 }
 

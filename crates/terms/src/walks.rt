@@ -1,9 +1,8 @@
 // Lists that are worked out item by item, and writing them to lent memory.
-ghost use Rattle.std.specs.Prelude.{◌≡◌, ◌^◌, ◌<◌, ◌≤◌, List, ◌++◌, length, drop};
+ghost use Rattle.std.specs.Prelude.{◌≡◌, ◌^◌, ◌≤◌, List, ◌++◌, length, drop, MatchOption};
 ghost use Rattle.std.specs.Iterator.{YieldsFirst, item_count};
 ghost use Rattle.terms.specs.Lists.{removal, union};
-ghost use Rattle.terms.specs.Writing.{Gives, nameable, room_for, written};
-ghost use Rattle.terms.specs.declared.refusals.Refusal.TheVariants.{MemoryTooShort};
+ghost use Rattle.terms.specs.Writing.{Gives, room_for, written};
 
 use crate::order::Ordered;
 use crate::refusals::Refusal;
@@ -32,12 +31,13 @@ impl<T: Ordered> Iterator for Join<'_, T> {
             self.xs = xs;
             return Some(*x);
         };
-        if y.before(x) {
-            self.ys = ys;
-            return Some(*y);
+        if x.before(y) {
+            self.xs = xs;
+            return Some(*x);
         }
-        if !x.before(y) {
-            self.ys = ys;
+        self.ys = ys;
+        if y.before(x) {
+            return Some(*y);
         }
         self.xs = xs;
         Some(*x)
@@ -69,35 +69,26 @@ impl<T: Ordered> Iterator for Without<'_, T> {
     }
 }
 
-// The refusal of memory for fewer than `needed` items.
-fn too_short(needed: u128) -> Refusal
-    ensures { result ≡ MemoryTooShort (nameable needed) }
-{
-    Refusal::MemoryTooShort {
-        needed: usize::try_from(needed).unwrap_or(usize::MAX),
-    }
-}
-
-// How many items there are.
-fn count<T: Copy, I: Iterator<Item = T>>(items: I) -> u128
+/// How many items there are, or nothing where a `usize` does not hold that many.
+pub(crate) fn count<T: Copy, I: Iterator<Item = T> + Copy>(items: I) -> Option<usize>
     ghost list: { List T }
-    requires gives { Gives I.can_next I.next_gives I.remaining items list }
-    requires fits { length list < 2 ^ 128 }
-    ensures { result ≡ length list }
+    requires { Gives I.can_next I.next_gives I.remaining items list }
+    ensures { MatchOption result (2 ^ 64 ≤ length list) (λ n. n ≡ length list) }
 {
-    let mut n = 0;
+    let mut n = 0usize;
     for _ in items {
-        n += 1;
+        n = n.checked_add(1)?;
     }
-    n
+    Some(n)
 }
 
-// Writes the items to the front of `out`.
-fn write<T: Copy, I: Iterator<Item = T>>(items: I, out: &mut [T])
+/// Writes the items to the front of `out` and answers how many they are.
+pub(crate) fn write<T: Copy, I: Iterator<Item = T>>(items: I, out: &mut [T]) -> usize
     ghost list: { List T }
     requires gives { Gives I.can_next I.next_gives I.remaining items list }
     requires fits { length list ≤ length out.old }
-    ensures { out.new ≡ list ++ drop (length list) out.old }
+    ensures count { result ≡ length list }
+    ensures memory { out.new ≡ list ++ drop (length list) out.old }
 {
     // An index of `enumerate` would have to be shown to fit a `usize` for each iterator, and of slots in a `zip` it is not known what they hold afterwards.
     let mut n = 0;
@@ -105,24 +96,24 @@ fn write<T: Copy, I: Iterator<Item = T>>(items: I, out: &mut [T])
         out[n] = item;
         n += 1;
     }
+    n
 }
 
-/// Writes the items to the front of `out` and answers how many they are; where they do not fit, `out` stays as it was.
-pub(crate) fn write_out<T: Copy, I: Iterator<Item = T> + Copy>(
+/// Writes the items, which are `needed` many, to the front of `out` and answers how many they are; where they do not fit, `out` stays as it was.
+pub(crate) fn write_out<T: Copy, I: Iterator<Item = T>>(
     items: I,
+    needed: usize,
     out: &mut [T],
 ) -> Result<usize, Refusal>
     ghost list: { List T }
     requires gives { Gives I.can_next I.next_gives I.remaining items list }
-    requires countable { length list < 2 ^ 128 }
+    requires counted { needed ≡ length list }
     ensures answer { result ≡ room_for list (length out.old) }
     ensures memory { out.new ≡ written list out.old }
 {
-    let needed = count(items);
-    if needed <= out.len() as u128 {
-        write(items, out);
-        Ok(needed as usize)
+    if needed <= out.len() {
+        Ok(write(items, out))
     } else {
-        Err(too_short(needed))
+        Err(Refusal::MemoryTooShort { needed })
     }
 }

@@ -1,16 +1,10 @@
-use Rattle.std.proofs.Common.{◌≡◌, ◌+◌, [], ◌∷◌, ◌++◌, length, rules, arith, ◌∙◌}
+use Rattle.std.proofs.Common.{◌≡◌, ◌+◌, ◌^◌, ◌≤◌, [], ◌∷◌, ◌++◌, length, rules, arith, ◌∙◌}
 use Rattle.std.proofs.lemmas.Iterator.Consumers.{YieldsList-at, YieldsList-turn, YieldsList-end}
 use Rattle.std.proofs.lemmas.List.{length-append}
 use Rattle.terms.proofs.walks.count.Goals as goal
 
 pub loop-init : goal.loop-init
 loop-init g c = search rules
-
-pub overflow_add-n : goal.overflow_add-n
-overflow_add-n g c =
-    let e = YieldsList-at c.into_iter-iterator.ensures.into_iter_gives c.requires.1.1.0.0 in
-    let t = YieldsList-turn e c.loop.yielded c.loop.iterator' c.loop.yielded_by c.next.result c.next.new.self c.in-Some.field-0 c.in-Some.is c.next.ensures.steps in
-    omega (arith, t.0, c.requires.1.1.1, c.loop.invariant.2)
 
 pub loop-preserved : goal.loop-preserved
 loop-preserved g c =
@@ -20,5 +14,13 @@ loop-preserved g c =
 
 pub returns : goal.returns
 returns g c =
-    let e = YieldsList-at c.into_iter-iterator.ensures.into_iter_gives c.requires.1.1.0.0 in
+    let e = YieldsList-at c.into_iter-iterator.ensures.into_iter_gives c.requires.1.1.0 in
     c.loop.invariant.2 ∙ (YieldsList-end e c.loop.yielded c.loop.iterator' c.loop.yielded_by c.next.result c.next.new.self c.in-None.is c.next.ensures.steps).1
+
+pub returns-in_err-n : goal.returns-in_err-n
+returns-in_err-n g c =
+    let e = YieldsList-at c.into_iter-iterator.ensures.into_iter_gives c.requires.1.1.0 in
+    let t = YieldsList-turn e c.loop.yielded c.loop.iterator' c.loop.yielded_by c.next.result c.next.new.self c.in-Some.field-0 c.in-Some.is c.next.ensures.steps in
+    let over : 2 ^ 64 ≤ c.loop.n + 1 = search rules in
+    let many : 2 ^ 64 ≤ length g.list = omega (arith, t.0, over, c.loop.invariant.2) in
+    rw c.from_residual.ensures many

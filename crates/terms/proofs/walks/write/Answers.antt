@@ -38,4 +38,7 @@ pub returns : goal.returns
 returns g c =
     let e = YieldsList-at c.into_iter-item-iterator.ensures.into_iter_gives c.requires.1.1.0.0 in
     let all = (YieldsList-end e c.loop-item.yielded c.loop-item.item-iterator c.loop-item.yielded_by c.next.result c.next.new.self c.in-None.is c.next.ensures.steps).1 in
-    part_memory _ _ _ _ (part_other _ _ _ _ _ _ (drop_all _ g.list (omega (arith, all, c.loop-item.invariant.2))) c.loop-item.invariant.3)
+    record {
+      count = omega (arith, all, c.loop-item.invariant.2);
+      memory = part_memory _ _ _ _ (part_other _ _ _ _ _ _ (drop_all _ g.list (omega (arith, all, c.loop-item.invariant.2))) c.loop-item.invariant.3);
+    }
