@@ -1,10 +1,11 @@
 -- Searches that decide: there is such a number, such an item, or every item is such. Assumes nothing.
-use Rattle.std.proofs.Common.{◌≡◌, ℕ, zero, suc, ◌+◌, ◌<◌, ◌≤◌, Bool, true, false, cond, ◌⊎◌, List, [], ◌∷◌, Some, None, Decides, sym, refl, subst, inl, inr, ⊎_elim, arith}
+use Rattle.std.proofs.Common.{◌≡◌, ℕ, zero, suc, ◌+◌, ◌<◌, ◌≤◌, Bool, true, false, cond, ◌⊎◌, List, [], ◌∷◌, Option, Some, None, is_some, Decides, sym, refl, ap, subst, inl, inr, ⊎_elim, arith}
 use mathlib.Core.Bool.{Bool-set}
 use mathlib.Core.Logic.{∥∥₁_elim}
 use Rattle.std.specs.List.{find, list_all, list_any, range_with_len}
-use Rattle.std.proofs.lemmas.Bool.{and_parts, and_from, cases_lt, or_cases, or_left, or_right, true≢false}
+use Rattle.std.proofs.lemmas.Bool.{and_parts, and_from, both_ways, cases_lt, or_cases, or_left, or_right, true≢false}
 use Rattle.terms.specs.Lists.{◌∈◌}
+use Rattle.models.specs.Judging.{lowest}
 
 -- what a search finds: it passes, and none before it does
 pub record Found (p : ℕ → Bool) (from end x : ℕ) : Type 0 where
@@ -41,6 +42,17 @@ module _ (p : ℕ → Bool) where
       go rec true t e = let z : ◌≡◌ {A = ℕ} 0 1 = cc in absurd (omega arith)
       go rec false t e = first_more from k (from + 1 + n) t (rec e) a (omega arith)
 
+  pub cases_found : (o : Option ℕ) → ((x : ℕ) × (o ≡ Some x)) ⊎ (o ≡ None)
+  cases_found (Some x) = inl (x, refl)
+  cases_found None = inr refl
+
+  pub some_found : (n k : ℕ) → k < n → p k ≡ true → is_some (lowest p n) ≡ true
+  some_found n k h t = go (cases_found (lowest p n))
+    where
+      go : ((x : ℕ) × (lowest p n ≡ Some x)) ⊎ (lowest p n ≡ None) → is_some (lowest p n) ≡ true
+      go (inl (x, e)) = ap is_some e
+      go (inr e) = absurd (both_ways (p k) (none_found n 0 e k (omega arith) (omega arith)) t)
+
   -- a number that passes, if some number from `from` to the end does
   passing : (n from : ℕ) → list_any p (range_with_len from n) ≡ true → (k : ℕ) × (p k ≡ true)
   passing zero from h = absurd (true≢false (sym h))
@@ -55,6 +67,17 @@ bool_prop : (b : Bool) (x y : b ≡ true) → x ≡ y
 bool_prop b x y = Bool-set b true x y
 
 -- there is a number that passes, where each that passes is below n
+pub decides_lowest : (p : ℕ → Bool) (P : ℕ → Type 0) (each : (k : ℕ) → Decides (p k) (P k)) (n : ℕ) → ((k : ℕ) → P k → k < n) → Decides (is_some (lowest p n)) (∥ ((k : ℕ) × P k) ∥₁)
+decides_lowest p P each n inside = (forth, λ h. ∥∥₁_elim h (bool_prop _) (λ w. some_found p n w.0 (inside w.0 w.1) ((each w.0).1 w.1)))
+  where
+    forth : is_some (lowest p n) ≡ true → ∥ ((k : ℕ) × P k) ∥₁
+    forth h = go (cases_found p (lowest p n))
+      where
+        go : ((x : ℕ) × (lowest p n ≡ Some x)) ⊎ (lowest p n ≡ None) → ∥ ((k : ℕ) × P k) ∥₁
+        go (inl (x, e)) = ∣ (x, (each x).0 (found p n 0 x e).passes) ∣₁
+        go (inr e) = absurd (both_ways (is_some (lowest p n)) (ap is_some e) h)
+
+-- the same, told by whether some number below n passes
 pub decides_below : (p : ℕ → Bool) (P : ℕ → Type 0) (each : (k : ℕ) → Decides (p k) (P k)) (n : ℕ) → ((k : ℕ) → P k → k < n) → Decides (list_any p (range_with_len 0 n)) (∥ ((k : ℕ) × P k) ∥₁)
 decides_below p P each n inside = (
   λ h. let w = passing p n 0 h in ∣ (w.0, (each w.0).0 w.1) ∣₁,

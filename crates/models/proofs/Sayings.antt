@@ -9,7 +9,7 @@ use Rattle.models.specs.declared.entries.Entry.{Entry}
 use Rattle.models.specs.declared.facts.Fact.{Fact}
 use Rattle.models.specs.declared.facts.Fact.TheVariants.{In, Link}
 
-same_decides : (f g : Fact) → Decides (fact_same f g) (f ≡ g)
+pub same_decides : (f g : Fact) → Decides (fact_same f g) (f ≡ g)
 same_decides (In A x) (In B y) =
     Decides-like _ (λ p. let a = p.0 in let b = p.1 in cc) (λ e. (let a : A ≡ B = cc in a, let b : x ≡ y = cc in b)) (Decides-and _ _ (Decides-eqb A B) (Decides-eqb x y))
 same_decides (In A x) (Link r y z) = (λ h. absurd (true≢false (sym h)), λ e. let z : ◌≡◌ {A = ℕ} 0 1 = cc in absurd (omega arith))

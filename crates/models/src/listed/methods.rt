@@ -18,7 +18,9 @@ fn first_outside(size: u8, fact: Fact) -> Option<u8>
 {
     match fact {
         Fact::In { element, .. } => Some(element).filter(|x| *x >= size),
-        Fact::Link { from, to, .. } => [from, to].into_iter().find(|x| *x >= size),
+        Fact::Link { from, to, .. } => Some(from)
+            .filter(|x| *x >= size)
+            .or(Some(to).filter(|x| *x >= size)),
     }
 }
 
