@@ -5,6 +5,7 @@ pub mod Pasts
 pub mod Placed
 pub mod PredTie
 pub mod Replied
+pub mod Rooms
 pub mod Rules
 pub mod Shown
 pub mod Standing
