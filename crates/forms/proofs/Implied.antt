@@ -1,6 +1,6 @@
 -- Concept axioms made of lists that were not refused. Assumes nothing.
 use Rattle.std.proofs.Common.{◌≡◌, ℕ, ◌≤◌, Bool, true, List, map, length, nat_lt, Some, None, Ok, Err, Result, sym, ap, ◌∙◌, MatchResult}
-use Rattle.std.proofs.lemmas.List.{map-id, take_all}
+use Rattle.std.proofs.lemmas.List.{take_all}
 use Rattle.std.proofs.lemmas.Bool.{cond-true, le-leb}
 use Rattle.terms.specs.Lists.{rising}
 use Rattle.terms.specs.Literals.{literal_precedes}
@@ -12,6 +12,7 @@ use Rattle.models.specs.declared.axioms.ConceptAxiom.{ConceptAxiom}
 use Rattle.forms.specs.Items.{MadeOrRefused}
 use Rattle.forms.specs.Numbers.{axiom_numbers, axiom_refusal, literal_numbers}
 use Rattle.forms.specs.declared.numbers.LiteralNumbers.{LiteralNumbers}
+use Rattle.forms.proofs.Passed.{some_none}
 use Rattle.forms.proofs.Turns.{first_none}
 
 list_passes : {X : Type 0} (lt : X → X → Bool) (limit : ℕ) (xs : List X) → length xs ≤ limit → rising lt xs ≡ true → list_refusal lt limit xs ≡ None
@@ -21,8 +22,8 @@ pub sides_pass : (left : List ℕ) (right : List Literal) → length left ≤ 8 
 sides_pass left right few few' rise rise' = first_none _ _ (list_passes nat_lt 8 left few rise) ∙ list_passes literal_precedes 8 right few' rise'
 
 pub axiom_made : (stated : List ℕ × List LiteralNumbers) (left : List ℕ) (right : List Literal) (r : Result ConceptAxiom Refusal)
-    → map (λ A. A) left ≡ stated.0 → map literal_numbers right ≡ stated.1 → axiom_refusal stated ≡ None → sides_refusal left right ≡ None
+    → left ≡ stated.0 → map literal_numbers right ≡ stated.1 → axiom_refusal stated ≡ None → sides_refusal left right ≡ None
     → MatchResult r (λ a. (held a.left ≡ left) × (held a.right ≡ right) × (sides_refusal left right ≡ None)) (λ e. sides_refusal left right ≡ Some e)
     → MadeOrRefused axiom_numbers axiom_refusal stated r
-axiom_made stated left right (Ok a) l r free pass made = (λ i. ((made.0 ∙ sym (map-id left) ∙ l) i, (ap (map literal_numbers) made.1 ∙ r) i), free)
-axiom_made stated left right (Err e) l r free pass refused = let never : Some e ≡ None = sym refused ∙ pass in absurd cc
+axiom_made stated left right (Ok a) l r free pass made = (λ i. ((made.0 ∙ l) i, (ap (map literal_numbers) made.1 ∙ r) i), free)
+axiom_made stated left right (Err e) l r free pass refused = absurd (some_none e (sym refused ∙ pass))

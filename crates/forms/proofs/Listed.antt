@@ -1,6 +1,6 @@
 -- What the lists of a form keep: concepts and literals rise, literals are as few as their list may hold, and the clauses of sides are in range.
 -- Assumes nothing.
-use Rattle.std.proofs.Common.{◌≡◌, ℕ, ◌<◌, ◌≤◌, true, List, [], ◌∷◌, map, length, nat_lt, refl, ap, inl, inr}
+use Rattle.std.proofs.Common.{◌≡◌, ℕ, ◌<◌, ◌≤◌, true, List, map, length, nat_lt, refl}
 use Rattle.std.proofs.lemmas.List.{length-map}
 use Rattle.terms.specs.Limits.{concepts}
 use Rattle.terms.specs.Lists.{◌∈◌, rising}
@@ -11,13 +11,13 @@ use Rattle.forms.specs.Items.{listable, range_refusal}
 use Rattle.forms.specs.Limits.{clause_limit}
 use Rattle.forms.specs.Numbers.{literal_numbers, literal_refused, numbers_precede, side_numbers, side_refused}
 use Rattle.forms.specs.declared.sides.Side.{Side}
-use Rattle.forms.proofs.Passed.{both_none, each, few, in_range, rise}
+use Rattle.forms.proofs.Passed.{both_none, each, few, in_map, in_range, rise}
 
 pub concepts_rise : (limit : ℕ) (xs : List ℕ) → listable (range_refusal concepts) nat_lt limit (map (λ A. A) xs) ≡ true → rising nat_lt xs ≡ true
 concepts_rise limit xs ok = rise (range_refusal concepts) nat_lt (λ A. A) nat_lt (λ x y. refl) limit xs ok
 
 -- literals are ordered as their numbers are
-agree : (x y : Literal) → numbers_precede (literal_numbers x) (literal_numbers y) ≡ literal_precedes x y
+pub agree : (x y : Literal) → numbers_precede (literal_numbers x) (literal_numbers y) ≡ literal_precedes x y
 agree (Concept A) (Concept B) = refl
 agree (Concept A) (Exists F B) = refl
 agree (Concept A) (Forall F B) = refl
@@ -38,8 +38,3 @@ pub sides_in_range : (limit : ℕ) (xs : List Side) → listable side_refused (�
 sides_in_range limit xs ok s m =
     let passes = each side_refused (λ _ _. true) limit (map side_numbers xs) ok (side_numbers s) (in_map side_numbers s xs m) in
     in_range clause_limit s.clause (both_none _ _ passes).0
-  where
-    in_map : {X Y : Type 0} (f : X → Y) (x : X) (xs : List X) → x ∈ xs → f x ∈ map f xs
-    in_map f x [] m = absurd m
-    in_map f x (y ∷ xs) (inl e) = inl (ap f e)
-    in_map f x (y ∷ xs) (inr m) = inr (in_map f x xs m)

@@ -7,6 +7,9 @@ use Rattle.terms.specs.declared.refusals.Refusal.{Refusal}
 use Rattle.models.specs.Charts.{first_refusal}
 use Rattle.forms.specs.Items.{items_refusal, listable, may_stand, range_refusal}
 
+pub some_none : {A : Type 0} (x : A) → Some x ≡ None → ⊥
+some_none x h = cc
+
 passed_over : {A : Type 0} (b : Bool) (e : A) (x : Option A) → cond b (Some e) x ≡ None → (b ≡ false) × (x ≡ None)
 passed_over true e x h = (cc, cc)
 passed_over false e x h = (refl, h)
@@ -18,6 +21,11 @@ passed_by false e x h = (cc, cc)
 pub both_none : (a b : Option Refusal) → first_refusal a b ≡ None → (a ≡ None) × (b ≡ None)
 both_none (Some e) b h = (cc, cc)
 both_none None b h = (refl, h)
+
+pub in_map : {X Y : Type 0} (f : X → Y) (x : X) (xs : List X) → x ∈ xs → f x ∈ map f xs
+in_map f x [] m = absurd m
+in_map f x (y ∷ xs) (inl e) = inl (ap f e)
+in_map f x (y ∷ xs) (inr m) = inr (in_map f x xs m)
 
 pub in_range : (limit n : ℕ) → range_refusal limit n ≡ None → n < limit
 in_range limit n h = ltb-true n limit (passed_by (ltb n limit) _ None h).0
@@ -40,10 +48,10 @@ module _ {Y : Type 0} (refused : Y → Option Refusal) (follows : Y → Y → Bo
       let free = o.0 in
       grind (arith, nat_tests)
 
-  each_from : (room : ℕ) (last : Option Y) (ys : List Y) → items_refusal refused follows room last ys ≡ None → (y : Y) → y ∈ ys → refused y ≡ None
-  each_from room last [] h y m = absurd m
-  each_from room last (z ∷ ys) h y (inl e) = ap refused e ∙ (one room last z ys h).1
-  each_from room last (z ∷ ys) h y (inr m) = each_from (room - 1) (Some z) ys (one room last z ys h).3 y m
+  pub each_passes : (room : ℕ) (last : Option Y) (ys : List Y) → items_refusal refused follows room last ys ≡ None → (y : Y) → y ∈ ys → refused y ≡ None
+  each_passes room last [] h y m = absurd m
+  each_passes room last (z ∷ ys) h y (inl e) = ap refused e ∙ (one room last z ys h).1
+  each_passes room last (z ∷ ys) h y (inr m) = each_passes (room - 1) (Some z) ys (one room last z ys h).3 y m
 
   -- items whose order is that of their numbers rise
   module _ {X : Type 0} (numbers : X → Y) (lt : X → X → Bool) (agree : (x y : X) → follows (numbers x) (numbers y) ≡ lt x y) where
@@ -51,7 +59,7 @@ module _ {Y : Type 0} (refused : Y → Option Refusal) (follows : Y → Y → Bo
     leading room x [] h = refl
     leading room x (y ∷ ys) h = sym (agree x y) ∙ (one room (Some (numbers x)) (numbers y) (map numbers ys) h).2
 
-    rises : (room : ℕ) (last : Option Y) (xs : List X) → items_refusal refused follows room last (map numbers xs) ≡ None → rising lt xs ≡ true
+    pub rises : (room : ℕ) (last : Option Y) (xs : List X) → items_refusal refused follows room last (map numbers xs) ≡ None → rising lt xs ≡ true
     rises room last [] h = refl
     rises room last (x ∷ xs) h =
         let rest = (one room last (numbers x) (map numbers xs) h).3 in
@@ -72,7 +80,7 @@ few refused follows limit ys ok = few_from refused follows limit None ys (unrefu
 
 pub each : {Y : Type 0} (refused : Y → Option Refusal) (follows : Y → Y → Bool) (limit : ℕ) (ys : List Y)
     → listable refused follows limit ys ≡ true → (y : Y) → y ∈ ys → refused y ≡ None
-each refused follows limit ys ok = each_from refused follows limit None ys (unrefused refused follows limit ys ok)
+each refused follows limit ys ok = each_passes refused follows limit None ys (unrefused refused follows limit ys ok)
 
 pub rise : {X Y : Type 0} (refused : Y → Option Refusal) (follows : Y → Y → Bool) (numbers : X → Y) (lt : X → X → Bool)
     → ((x y : X) → follows (numbers x) (numbers y) ≡ lt x y) → (limit : ℕ) (xs : List X)

@@ -1,5 +1,5 @@
 -- One turn of the loop over the numbers of a list: what is left decides. Assumes nothing.
-use Rattle.std.proofs.Common.{◌≡◌, ℕ, ◌+◌, ◌-◌, ◌<◌, ◌≤◌, Bool, true, false, cond, List, [], ◌∷◌, ◌++◌, map, length, take, drop, get_or, Some, None, Option, refl, sym, ap, ◌∙◌, arith}
+use Rattle.std.proofs.Common.{◌≡◌, ℕ, ◌+◌, ◌-◌, ◌<◌, ◌≤◌, Bool, true, false, eqb, List, [], ◌∷◌, ◌++◌, map, length, take, drop, get_or, Some, None, Option, refl, sym, ap, ◌∙◌, arith}
 use Rattle.std.proofs.lemmas.List.{drop_all, get_or_push, length-append, length-map, length-take-le, take_more}
 use Rattle.std.proofs.lemmas.Option.{slice_get-get_or, slice_get-map}
 use Rattle.std.proofs.lemmas.Bool.{cond-false, cond-true, eq-eqb, ne_eqb}
@@ -16,6 +16,26 @@ first_some a b e h = ap (λ (o : Option Refusal). first_refusal o b) h
 
 pub first_none : (a b : Option Refusal) → a ≡ None → first_refusal a b ≡ b
 first_none a b h = ap (λ (o : Option Refusal). first_refusal o b) h
+
+module _ {Y : Type 0} (refused : Y → Option Refusal) (follows : Y → Y → Bool) (room : ℕ) (last : Option Y) (us : List Y) (whole : Option Refusal) (way : items_refusal refused follows room last us ≡ whole) where
+  pub at_end : us ≡ [] → whole ≡ None
+  at_end none = sym way ∙ ap (items_refusal refused follows room last) none
+
+  module _ (y : Y) (rest : List Y) (here : us ≡ y ∷ rest) where
+    opened : whole ≡ items_refusal refused follows room last (y ∷ rest)
+    opened = sym way ∙ ap (items_refusal refused follows room last) here
+
+    pub too_many : eqb room 0 ≡ true → whole ≡ Some (TooLong 0)
+    too_many full = opened ∙ cond-true _ _ _ full
+
+    pub outside : (e : Refusal) → eqb room 0 ≡ false → refused y ≡ Some e → whole ≡ Some e
+    outside e free out = opened ∙ cond-false _ _ _ free ∙ first_some _ _ e out
+
+    pub falls : eqb room 0 ≡ false → refused y ≡ None → may_stand follows last y ≡ false → whole ≡ Some (NotRising 0)
+    falls free inside low = opened ∙ cond-false _ _ _ free ∙ first_none _ _ inside ∙ cond-false _ _ _ low
+
+    pub goes_on : eqb room 0 ≡ false → refused y ≡ None → may_stand follows last y ≡ true → items_refusal refused follows (room - 1) (Some y) rest ≡ whole
+    goes_on free inside high = sym (opened ∙ cond-false _ _ _ free ∙ first_none _ _ inside ∙ cond-true _ _ _ high)
 
 -- as many are held as were read
 pub as_many : {X Y : Type 0} (f : X → Y) (held : List X) (xs : List Y) (i : ℕ) → i ≤ length xs → map f held ≡ take i xs → length held ≡ i
@@ -44,29 +64,28 @@ module _ {Y : Type 0} (refused : Y → Option Refusal) (follows : Y → Y → Bo
   Decided i = items_refusal refused follows (limit - i) (ending (take i stated)) (drop i stated) ≡ items_refusal refused follows limit None stated
 
   module _ (i : ℕ) (left : Decided i) where
-    pub at_end : length stated ≤ i → whole ≡ None
-    at_end done = sym left ∙ ap (items_refusal refused follows (limit - i) (ending (take i stated))) (drop_all i stated done)
+    pub ends_at : length stated ≤ i → whole ≡ None
+    ends_at done = at_end refused follows _ _ _ _ left (drop_all i stated done)
 
     module _ (y : Y) (within : i < length stated) (read : y ≡ get_or stated i y) where
-      opened : whole ≡ items_refusal refused follows (limit - i) (ending (take i stated)) (y ∷ drop (i + 1) stated)
-      opened = sym left ∙ ap (items_refusal refused follows (limit - i) (ending (take i stated))) (drop_read stated i y within read)
+      next : drop i stated ≡ y ∷ drop (i + 1) stated
+      next = drop_read stated i y within read
 
-      pub too_many : limit ≤ i → whole ≡ Some (TooLong 0)
-      too_many full = let none : limit - i ≡ 0 = omega arith in opened ∙ cond-true _ _ _ (eq-eqb _ _ none)
+      pub full_at : limit ≤ i → whole ≡ Some (TooLong 0)
+      full_at full = let none : limit - i ≡ 0 = omega arith in too_many refused follows _ _ _ _ left y _ next (eq-eqb _ _ none)
 
       module _ (room : i < limit) where
-        free : whole
-            ≡ first_refusal (refused y) (cond (may_stand follows (ending (take i stated)) y) (items_refusal refused follows (limit - i - 1) (Some y) (drop (i + 1) stated)) (Some (NotRising 0)))
-        free = opened ∙ cond-false _ _ _ (ne_eqb _ _ (λ (e : limit - i ≡ 0). omega arith))
+        free : eqb (limit - i) 0 ≡ false
+        free = ne_eqb _ _ (λ (e : limit - i ≡ 0). omega arith)
 
-        pub outside : (e : Refusal) → refused y ≡ Some e → whole ≡ Some e
-        outside e out = free ∙ first_some _ _ e out
+        pub outside_at : (e : Refusal) → refused y ≡ Some e → whole ≡ Some e
+        outside_at e out = outside refused follows _ _ _ _ left y _ next e free out
 
-        pub falls : refused y ≡ None → may_stand follows (ending (take i stated)) y ≡ false → whole ≡ Some (NotRising 0)
-        falls inside low = free ∙ first_none _ _ inside ∙ cond-false _ _ _ low
+        pub falls_at : refused y ≡ None → may_stand follows (ending (take i stated)) y ≡ false → whole ≡ Some (NotRising 0)
+        falls_at inside low = falls refused follows _ _ _ _ left y _ next free inside low
 
-        pub goes_on : refused y ≡ None → may_stand follows (ending (take i stated)) y ≡ true → Decided (i + 1)
-        goes_on inside high =
-            let next : ending (take (i + 1) stated) ≡ Some y = ap ending (take_more stated i y within) ∙ ending_push (take i stated) (get_or stated i y) ∙ ap Some (sym read) in
+        pub goes_on_at : refused y ≡ None → may_stand follows (ending (take i stated)) y ≡ true → Decided (i + 1)
+        goes_on_at inside high =
+            let last : ending (take (i + 1) stated) ≡ Some y = ap ending (take_more stated i y within) ∙ ending_push (take i stated) (get_or stated i y) ∙ ap Some (sym read) in
             let less : limit - (i + 1) ≡ limit - i - 1 = omega arith in
-            rw (next, less) (sym (free ∙ first_none _ _ inside ∙ cond-true _ _ _ high))
+            rw (last, less) (goes_on refused follows _ _ _ _ left y _ next free inside high)

@@ -1,6 +1,7 @@
 //! Forms: what a book can be asked, made of numbers that are checked as a line would be read.
 #![tactic(auto)]
 
+mod exact;
 pub mod formed;
 pub mod limits;
 pub mod lists;

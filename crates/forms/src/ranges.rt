@@ -1,14 +1,16 @@
 // Numbers below a limit.
-ghost use Rattle.std.specs.Prelude.{◌≡◌, ◌<◌, true};
+ghost use Rattle.std.specs.Prelude.{◌≡◌, ◌<◌, true, Some};
+ghost use Rattle.std.specs.Fmt.{decimal};
 ghost use Rattle.forms.specs.Items.{MadeOrRefused, range_refusal};
 ghost use Rattle.forms.specs.Limits.{clause_limit};
 
 use crate::limits::{AXIOM_LIMIT, CLAUSE_LIMIT, CONTEXT_LIMIT};
 use crate::numbered::Numbered;
+use std::fmt;
 use terms::Refusal;
 
 /// A number below LIMIT.
-#[derive(Clone, Copy)]
+#[derive(Clone, Copy, PartialEq, Eq, PartialOrd, Ord, Hash)]
 pub struct Below<const LIMIT: usize> {
     number: u32,
     ghost ok: { number < LIMIT },
@@ -44,11 +46,44 @@ impl<const LIMIT: usize> Below<LIMIT> {
     }
 }
 
+impl<const LIMIT: usize> fmt::Display for Below<LIMIT> {
+    ghost output = { λ n. Some (decimal n.number) };
+
+    fn fmt<W: fmt::Write>(&self, f: &mut fmt::Formatter<W>) -> fmt::Result {
+        let number = self.number;
+        write!(f, "{number}")
+    }
+}
+
+// As the plain number prints.
+impl<const LIMIT: usize> fmt::Debug for Below<LIMIT> {
+    fn fmt<W: fmt::Write>(&self, f: &mut fmt::Formatter<W>) -> fmt::Result {
+        let digits = self.number;
+        write!(f, "{digits:?}")
+    }
+}
+
+impl Default for ContextNumber {
+    ghost is_default = { λ n. n.number ≡ 0 };
+
+    fn default() -> ContextNumber {
+        ContextNumber { number: 0 }
+    }
+}
+
+impl Default for AxiomNumber {
+    ghost is_default = { λ n. n.number ≡ 0 };
+
+    fn default() -> AxiomNumber {
+        AxiomNumber { number: 0 }
+    }
+}
+
 impl Default for ClauseNumber {
     ghost is_default = { λ n. n.number ≡ 0 };
 
     fn default() -> ClauseNumber {
-        Below { number: 0 }
+        ClauseNumber { number: 0 }
     }
 }
 

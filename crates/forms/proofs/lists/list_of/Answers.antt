@@ -3,7 +3,7 @@ use Rattle.std.proofs.lemmas.Bool.{lt-ltb}
 use Rattle.std.proofs.lemmas.List.{map_push, take_all, take_more}
 use Rattle.std.proofs.lemmas.Result.{err_from_is_err_and}
 use Rattle.terms.specs.Shorts.{held}
-use Rattle.forms.proofs.Turns.{as_many, at_end, ending, ending_numbers, falls, goes_on, outside, too_many}
+use Rattle.forms.proofs.Turns.{as_many, ending, ending_numbers, ends_at, falls_at, full_at, goes_on_at, outside_at}
 use Rattle.forms.proofs.lists.list_of.Goals as goal
 
 pub returns-then-len : goal.returns-then-len
@@ -11,7 +11,7 @@ returns-then-len g c =
     let l = c.loop-number in
     let count = as_many g.T.Numbered.numbers (held l.list) c.args.stated.now l.number-index l.invariant.0 l.invariant.1 in
     let full : g.row.N ≤ l.number-index = omega arith in
-    too_many g.T.Numbered.refused g.T.Numbered.follows g.row.N c.args.stated.now l.number-index l.invariant.2 c.number-item.result c.loop-number-test.true c.number-item.is full
+    full_at g.T.Numbered.refused g.T.Numbered.follows g.row.N c.args.stated.now l.number-index l.invariant.2 c.number-item.result c.loop-number-test.true c.number-item.is full
 
 pub returns-in_err-item : goal.returns-in_err-item
 returns-in_err-item g c =
@@ -19,7 +19,7 @@ returns-in_err-item g c =
     let count = as_many g.T.Numbered.numbers (held l.list) c.args.stated.now l.number-index l.invariant.0 l.invariant.1 in
     let room : l.number-index < g.row.N = omega arith in
     let p = err_from_is_err_and c.from_residual.result c.from_residual.ensures.1 in
-    rw (p.1, p.2) (outside g.T.Numbered.refused g.T.Numbered.follows g.row.N c.args.stated.now l.number-index l.invariant.2 c.number-item.result c.loop-number-test.true c.number-item.is room
+    rw (p.1, p.2) (outside_at g.T.Numbered.refused g.T.Numbered.follows g.row.N c.args.stated.now l.number-index l.invariant.2 c.number-item.result c.loop-number-test.true c.number-item.is room
     c.in_err-item.field-0.0 c.in_err-item.ensures)
 
 pub returns-then-not-may_stand : goal.returns-then-not-may_stand
@@ -31,7 +31,7 @@ returns-then-not-may_stand g c =
     let at : c.copied.result ≡ ending (held l.list) = cc in
     let last = ending_numbers g.T.Numbered.numbers c.copied.result (held l.list) _ at l.invariant.1 in
     let low = rw (last, item.0) at c.may_stand.ensures in
-    falls g.T.Numbered.refused g.T.Numbered.follows g.row.N c.args.stated.now l.number-index l.invariant.2 c.number-item.result c.loop-number-test.true c.number-item.is room
+    falls_at g.T.Numbered.refused g.T.Numbered.follows g.row.N c.args.stated.now l.number-index l.invariant.2 c.number-item.result c.loop-number-test.true c.number-item.is room
     item.1 (sym low ∙ c.if-not-may_stand.true)
 
 pub loop-number-preserved : goal.loop-number-preserved
@@ -51,7 +51,7 @@ loop-number-preserved g c =
     let grown = map_push g.T.Numbered.numbers (held l.list) c.in_ok-item.item in (
       omega arith,
       ap (map g.T.Numbered.numbers) pushed ∙ grown ∙ cc,
-      goes_on g.T.Numbered.refused g.T.Numbered.follows g.row.N c.args.stated.now l.number-index l.invariant.2 c.number-item.result within c.number-item.is room
+      goes_on_at g.T.Numbered.refused g.T.Numbered.follows g.row.N c.args.stated.now l.number-index l.invariant.2 c.number-item.result within c.number-item.is room
           item.1 (sym high ∙ c.if-not-may_stand.false),
     )
 
@@ -59,4 +59,4 @@ pub returns : goal.returns
 returns g c =
     let l = c.loop-number in
     let done = c.loop-number-test.false in
-    (l.invariant.1 ∙ take_all l.number-index c.args.stated.now done, at_end g.T.Numbered.refused g.T.Numbered.follows g.row.N c.args.stated.now l.number-index l.invariant.2 done)
+    (l.invariant.1 ∙ take_all l.number-index c.args.stated.now done, ends_at g.T.Numbered.refused g.T.Numbered.follows g.row.N c.args.stated.now l.number-index l.invariant.2 done)
