@@ -4,6 +4,15 @@ use Rattle.std.proofs.lemmas.List.{length-append, length-drop, length-take-le, t
 use Rattle.calculus.specs.Fronts.{placed, placed_all}
 
 module _ {X : Type 0} (lt : X → X → Bool) where
+  pub placed_longer : (x : X) (row : List X) → length row ≤ length (placed lt x row)
+  placed_longer x [] = omega arith
+  placed_longer x (y ∷ ys) = go (lt x y) (lt y x) (placed_longer x ys) (placed_longer y ys)
+    where
+      go : (a b : Bool) → length ys ≤ length (placed lt x ys) → length ys ≤ length (placed lt y ys) → length (y ∷ ys) ≤ length (cond a (x ∷ placed lt y ys) (cond b (y ∷ placed lt x ys) (y ∷ ys)))
+      go true b h k = omega arith
+      go false true h k = omega arith
+      go false false h k = omega arith
+
   -- the first items of the row with x are drawn from x and the first items of the row
   placed_take : (k : ℕ) (x : X) (row : List X) → take k (placed lt x (take k row)) ≡ take k (placed lt x row)
   placed_take zero x [] = refl

@@ -39,7 +39,7 @@ impl Clause {
         self.context
     }
 
-    /// The literals of the head.
+    /// The literals of the head, which rise.
     pub fn head(&self) -> &[Literal]
         ensures { result.now ≡ held self.now.head }
     {

@@ -1,7 +1,8 @@
 // What a host can read of a book.
-ghost use Rattle.std.specs.Prelude.{◌≡◌, map};
+ghost use Rattle.std.specs.Prelude.{◌≡◌, ◌≤◌, map, length};
 ghost use Rattle.terms.specs.Shorts.{held};
 ghost use Rattle.models.specs.Charts.{sentence_of};
+ghost use Rattle.forms.specs.Limits.{axiom_limit, clause_limit, context_limit};
 ghost use Rattle.book.specs.Contents.{clause_of};
 
 use crate::clauses::{Clause, Phase};
@@ -20,21 +21,24 @@ impl Book {
 
     /// The axioms, in the order of their numbers.
     pub fn axioms(&self) -> &[Axiom]
-        ensures { map sentence_of result.now ≡ self.now.axioms }
+        ensures value { map sentence_of result.now ≡ self.now.axioms }
+        ensures few { length result.now ≤ axiom_limit }
     {
         self.axioms.as_slice()
     }
 
     /// The cores of the contexts, in the order of their numbers.
     pub fn cores(&self) -> &[Short<u8, LIST_LIMIT>]
-        ensures { map held result.now ≡ self.now.contexts }
+        ensures value { map held result.now ≡ self.now.contexts }
+        ensures few { length result.now ≤ context_limit }
     {
         self.contexts.as_slice()
     }
 
     /// The clauses, in the order of their numbers.
     pub fn clauses(&self) -> &[Clause]
-        ensures { map clause_of result.now ≡ self.now.clauses }
+        ensures value { map clause_of result.now ≡ self.now.clauses }
+        ensures few { length result.now ≤ clause_limit }
     {
         self.clauses.as_slice()
     }
