@@ -35,13 +35,17 @@ fn run(rt: &impl Print) -> anyhow::Result<()> {
         Entry::new(links(0, 0, 1))?,
     ];
     let mut memory = entries;
-    let mut sample = List::new(&mut memory[..]);
-    sample.start(2)?;
-    sample.add_all(&entries)?;
+    replay(rt, &entries, &mut memory)
+}
+
+// Prints the session of a new book and a sample of two elements, which holds the entries in the memory lent. The session is made before anything can fail, so that it is written once.
+fn replay(rt: &impl Print, entries: &[Entry], memory: &mut [Entry]) -> anyhow::Result<()> {
     let mut session = Session {
         book: Book::new(),
-        sample,
+        sample: List::new(memory),
     };
+    session.sample.start(2)?;
+    session.sample.add_all(entries)?;
     session.enter_chart(rt)?;
     session.enter_steps(rt)?;
     session.ask_both(rt)
@@ -63,7 +67,9 @@ fn links(role: u8, from: u8, to: u8) -> Fact
 
 impl Session<'_> {
     // Enters the chart and closes the book.
-    fn enter_chart(&mut self, rt: &impl Print) -> anyhow::Result<()> {
+    fn enter_chart(&mut self, rt: &impl Print) -> anyhow::Result<()>
+        ensures sample { self.new.sample ≡ self.old.sample }
+    {
         let some = [LiteralNumbers::Exists(0, 2)];
         let all = [LiteralNumbers::Forall(1, 3)];
         let calls = [
@@ -75,7 +81,9 @@ impl Session<'_> {
     }
 
     // Opens two contexts, and enters the clauses of a derivation.
-    fn enter_steps(&mut self, rt: &impl Print) -> anyhow::Result<()> {
+    fn enter_steps(&mut self, rt: &impl Print) -> anyhow::Result<()>
+        ensures sample { self.new.sample ≡ self.old.sample }
+    {
         let some = [LiteralNumbers::Exists(0, 2)];
         let all = [LiteralNumbers::Forall(1, 3)];
         let three = [LiteralNumbers::Concept(3)];
@@ -101,7 +109,9 @@ impl Session<'_> {
     }
 
     // Asks whether all of 1 is in 3, and in 4, and whether the sample refutes it.
-    fn ask_both(&mut self, rt: &impl Print) -> anyhow::Result<()> {
+    fn ask_both(&mut self, rt: &impl Print) -> anyhow::Result<()>
+        ensures sample { self.new.sample ≡ self.old.sample }
+    {
         let asked = [
             ("(ask (1) (3))", Form::ask(&[1], &[3])?),
             ("(ask (1) (4))", Form::ask(&[1], &[4])?),
